@@ -1,12 +1,13 @@
--- One medium's crypto sessions after another.
-use Rattle.std.proofs.Common.{◌≡◌, ◌<◌, ◌+◌, ℕ, length, arith, List, [], ◌∷◌, ◌++◌, Option, Some, None, Result, Ok, Err, refl, ap, sym, ◌∙◌, append_assoc, append-nil}
-use Rattle.std.specs.Prelude.{option_map}
+-- One medium's crypto sessions after another, and whether an element is found.
+use Rattle.std.proofs.Common.{◌≡◌, ◌<◌, ◌+◌, ℕ, length, arith, Bool, true, false, cond, ◌||◌, List, [], ◌∷◌, ◌++◌, Option, Some, None, Result, Ok, Err, refl, ap, sym, ◌∙◌, append_assoc, append-nil}
+use Rattle.std.specs.Prelude.{is_some, option_map}
+use Rattle.std.specs.List.{find, list_any}
 use Rattle.sg_base.specs.Fields.{◌>>=◌}
 use Rattle.sg_base.specs.declared.faults.CsFault.TheVariants.{PolicyValue}
 use Rattle.sg_mikey.specs.declared.message.CsEntry.{CsEntry}
 use Rattle.sg_mikey.specs.declared.message.Tgk.{Tgk}
 use Rattle.sg_mikey.specs.declared.policy.Policy.{Policy}
-use Rattle.sg_csmap.specs.CryptoSessions.{Gives, GivesList, OnNoMemory, or_fault, pair_in, pairs_from}
+use Rattle.sg_csmap.specs.CryptoSessions.{OnNoMemory, or_fault, pair_in, pairs_from}
 use Rattle.sg_csmap.specs.declared.sessions.StreamKeys.{StreamKeys}
 use Rattle.sg_csmap.specs.declared.faults.CsError.{CsError}
 use Rattle.sg_csmap.specs.declared.faults.CsError.TheVariants as errors
@@ -51,3 +52,13 @@ unfolding pairs_from
 one_more csb random policies tgks session i r rest map done pair total are is so_far =
     goes_on done pair (pair_in csb random policies tgks session i r) (pairs_from csb random policies tgks (session + 2) map) total is
     (ap (λ m. behind done (pairs_from csb random policies tgks session m)) (sym are) ∙ so_far)
+
+pub found_is : {A B : Type 0} (p : A → Bool) (xs : List A) (view : B → A) (found : Option B) → option_map view found ≡ find p xs → is_some found ≡ list_any p xs
+found_is p [] view None e = refl
+found_is p [] view (Some y) e = absurd cc
+found_is {B = B} p (x ∷ xs) view found e = by found (p x) (found_is p xs view found) e
+  where
+    by : (o : Option B) (b : Bool) → (option_map view o ≡ find p xs → is_some o ≡ list_any p xs) → option_map view o ≡ cond b (Some x) (find p xs) → is_some o ≡ (b || list_any p xs)
+    by (Some y) true rest e = refl
+    by None true rest e = absurd cc
+    by o false rest e = rest e

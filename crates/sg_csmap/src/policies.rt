@@ -1,7 +1,7 @@
 //! What policies of SRTP mean (RFC 3830, 6.10.1).
 
 ghost use Rattle.std.specs.Prelude.{◌≡◌, ◌≤◌, ◌==◌, ℕ, option_map, length, is_some, IfSome};
-ghost use Rattle.std.specs.List.{find, list_all, list_any};
+ghost use Rattle.std.specs.List.{find, list_all};
 ghost use Rattle.sg_base.specs.Octets.{number_of};
 ghost use Rattle.sg_base.specs.Suites.{salt_len_of};
 ghost use Rattle.sg_csmap.specs.Policies.{are_served, each_once, has_kind, is_short, meaning, protection_of, row, said_by, suite_of, value_in, value_of};
@@ -10,7 +10,7 @@ use sg_base::{Octets, Suite};
 use sg_mikey::Policy;
 
 // How streams are protected: the suite, and whether RTP and RTCP are sent unencrypted.
-#[derive(Clone, Copy, Debug, PartialEq, Eq)]
+#[derive(Clone, Copy)]
 pub struct Protection {
     pub suite: Suite,
     pub plain_rtp: bool,
@@ -31,20 +31,14 @@ fn number(octets: &[u8]) -> u32
     }
 }
 
-fn has(served: &[u32], n: u32) -> bool
-    ensures { result ≡ list_any (λ v. v == n) served.now }
-{
-    served.iter().any(|value| *value == n)
-}
-
 // The value that a number means in a type with these served values.
 fn value_in(served: &[u32], in_bits: bool, n: u32) -> Option<u32>
     ensures { (kind : ℕ) → result ≡ value_in (row kind served.now in_bits) n }
 {
-    if has(served, n) {
+    if served.contains(&n) {
         return Some(n);
     }
-    if in_bits && n % 8 == 0 && has(served, n / 8) {
+    if in_bits && n % 8 == 0 && served.contains(&(n / 8)) {
         return Some(n / 8);
     }
     None
@@ -94,7 +88,7 @@ fn said_by(kind: u8, value: &[u8]) -> Option<u32>
 fn has_kind(kind: u8, items: &[(u8, Octets)]) -> bool
     ensures { result ≡ has_kind kind items.now }
 {
-    items.iter().any(|item| item.0 == kind)
+    item_of(items, kind).is_some()
 }
 
 // Whether no type stands twice.

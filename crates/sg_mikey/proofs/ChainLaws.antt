@@ -11,7 +11,7 @@ use Rattle.sg_mikey.specs.declared.payload.Payload.TheVariants.{Kemac}
 use Rattle.sg_mikey.specs.Chain.{stage_after, is_over}
 use Rattle.sg_mikey.specs.Spelling.{payload_number, next_number, body_octets, chain_octets, IsPayload}
 use Rattle.sg_mikey.specs.Reading.{◌>>=◌, Chained, is_number, in_place, payload_at, chain_at}
-use Rattle.sg_mikey.proofs.FieldLaws.{IsOctets, bind_ok, ok_is, Takes, Takes-then}
+use Rattle.sg_mikey.proofs.FieldLaws.{IsOctets, took, ok_is, Takes, Takes-then}
 use Rattle.sg_mikey.proofs.Orders.{Accepts, placed_of}
 use Rattle.sg_mikey.proofs.PayloadLaws.{TakesChained, payload_takes, payload_again}
 
@@ -50,15 +50,11 @@ chain_takes (suc fuel) kind stage next octets y fits e =
           subst (λ (z : List Payload × List ℕ). TakesChain octets kind stage next z.0 z.1) (ok_is none y over.1)
           (record { takes = record { parts = refl; rest_fits = fits }; payloads = tt; first = eqb-true next 0 parts.1; accepted = parts.0 }))
       | inr going ↦
-          (let a = bind_ok (in_place (stage_after kind stage next) octets) (λ behind. payload_at next octets >>= λ link. chain_at fuel kind behind link.1 link.2 >>= λ others. Ok (link.0 ∷ others.0, others.1)) y going.1 in
-          let b = bind_ok (payload_at next octets) (λ link. chain_at fuel kind a.0 link.1 link.2 >>= λ others. Ok (link.0 ∷ others.0, others.1)) y a.2 in
-          let c = bind_ok (chain_at fuel kind a.0 b.0.1 b.0.2) (λ others. Ok (b.0.0 ∷ others.0, others.1)) y b.2 in
-          let here = place_ok (stage_after kind stage next) octets a.0 a.1 in
-          let first = payload_takes next octets b.0 (placed_of kind next stage a.0 here) fits b.1 in
-          let others = chain_takes fuel kind a.0 b.0.1 b.0.2 c.0 first.takes.rest_fits c.1 in
-          let made : List Payload × List ℕ = (b.0.0 ∷ c.0.0, c.0.1) in
-          subst (λ (z : List Payload × List ℕ). TakesChain octets kind stage next z.0 z.1) (ok_is made y c.2)
-          (linked octets kind stage a.0 next b.0 c.0.0 c.0.1 here first others))
+          took (in_place (stage_after kind stage next) octets) _ y (λ x. place_ok (stage_after kind stage next) octets x) going.1 (λ behind here eb.
+          took (payload_at next octets) _ y (λ x. payload_takes next octets x (placed_of kind next stage behind here) fits) eb (λ link first el.
+          took (chain_at fuel kind behind link.1 link.2) _ y (λ x. chain_takes fuel kind behind link.1 link.2 x first.takes.rest_fits) el (λ c others ec.
+          subst (λ (z : List Payload × List ℕ). TakesChain octets kind stage next z.0 z.1) (ok_is (link.0 ∷ c.0, c.1) y ec)
+          (linked octets kind stage behind next link c.0 c.1 here first others))))
     ]
 
 -- ---- and back
@@ -117,9 +113,9 @@ enough_behind : (fuel more kind : ℕ) (stage : Stage) (next : ℕ) (octets : Li
 enough_behind fuel more kind stage next octets None r here read fits again lt = refl
 enough_behind fuel more kind stage next octets (Some behind) (Err s) here read fits again lt = refl
 enough_behind fuel more kind stage next octets (Some behind) (Ok link) here read fits again lt =
-    let took = payload_takes next octets link (placed_of kind next stage behind here) fits read in
-    let less = shrinks octets next link took in
-    rw (again behind link.1 link.2 took.takes.rest_fits (omega arith)) refl
+    let taken = payload_takes next octets link (placed_of kind next stage behind here) fits read in
+    let less = shrinks octets next link taken in
+    rw (again behind link.1 link.2 taken.takes.rest_fits (omega arith)) refl
 
 -- A chain is read alike with more steps than octets.
 pub chain_enough : (fuel more kind : ℕ) (stage : Stage) (next : ℕ) (octets : List ℕ) → IsOctets octets → length octets < fuel

@@ -26,15 +26,11 @@ IsOctets-take n octets h i =
 IsOctets-rest : (x : ℕ) (octets : List ℕ) → IsOctets (x ∷ octets) → IsOctets octets
 IsOctets-rest x octets h i = h (suc i)
 
--- the value of a step that did not fail
-pub bind_ok : {A B : Type 0} (r : Result A Stop) (f : A → Result B Stop) (y : B) → (r >>= f) ≡ Ok y → (x : A) × (r ≡ Ok x) × (f x ≡ Ok y)
-bind_ok (Ok x) f y e = (x, refl, e)
-bind_ok (Err d) f y e = absurd cc
-
--- a part that was read, what it is, and what is read behind it
-pub took : {A B : Type 0} {P : A → Type 0} (r : Result A Stop) (f : A → Result B Stop) (y : B) → ((x : A) → r ≡ Ok x → P x) → (r >>= f) ≡ Ok y
-    → (x : A) × P x × (f x ≡ Ok y)
-took r f y is e = let p = bind_ok r f y e in (p.0, is p.0 p.1, p.2)
+-- what follows from a part that was read, of what it is, and what is read behind it
+pub took : {A B G : Type 0} {P : A → Type 0} (r : Result A Stop) (f : A → Result B Stop) (y : B) → ((x : A) → r ≡ Ok x → P x) → (r >>= f) ≡ Ok y
+    → ((x : A) → P x → f x ≡ Ok y → G) → G
+took (Ok x) f y is e go = go x (is x refl) e
+took (Err d) f y is e go = absurd cc
 
 -- a test that did not fail
 pub guard_ok : {A : Type 0} (b : Bool) (d : Stop) (x y : A) → cond b (Err d) (Ok x) ≡ Ok y → (b ≡ false) × (x ≡ y)
@@ -112,16 +108,12 @@ same_two : (a b c d : ℕ) → a ≡ c → b ≡ d → a ∷ b ∷ [] ≡ c ∷ 
 same_two a b c d e f = rw (e, f) refl
 
 back_two : (octets : List ℕ) → length octets ≡ 2 → IsOctets octets → be (number_of octets) 2 ≡ octets
-back_two [] h fits = absurd (omega (arith, h))
-back_two (a ∷ []) h fits = absurd (omega (arith, h))
 back_two (a ∷ b ∷ []) h fits = let fa = fits 0 in let fb = fits 1 in same_two _ _ a b (omega (arith, fa, fb)) (omega (arith, fa, fb))
-back_two (a ∷ b ∷ c ∷ rest) h fits = absurd (omega (arith, h))
+back_two other h fits = absurd (omega (arith, h))
 
 below_two : (octets : List ℕ) → length octets ≡ 2 → IsOctets octets → number_of octets < 2 ^ 16
-below_two [] h fits = absurd (omega (arith, h))
-below_two (a ∷ []) h fits = absurd (omega (arith, h))
 below_two (a ∷ b ∷ []) h fits = let fa = fits 0 in let fb = fits 1 in omega (arith, fa, fb)
-below_two (a ∷ b ∷ c ∷ rest) h fits = absurd (omega (arith, h))
+below_two other h fits = absurd (omega (arith, h))
 
 pub wide_two : IsWide 2 (2 ^ 16)
 wide_two = record { len = λ n. refl; back = back_two; again = λ n lt. omega arith; below = below_two }
@@ -130,23 +122,15 @@ same_four : (a b c d p q r s : ℕ) → a ≡ p → b ≡ q → c ≡ r → d �
 same_four a b c d p q r s e f g h = rw (e, f, g, h) refl
 
 back_four : (octets : List ℕ) → length octets ≡ 4 → IsOctets octets → be (number_of octets) 4 ≡ octets
-back_four [] h fits = absurd (omega (arith, h))
-back_four (a ∷ []) h fits = absurd (omega (arith, h))
-back_four (a ∷ b ∷ []) h fits = absurd (omega (arith, h))
-back_four (a ∷ b ∷ c ∷ []) h fits = absurd (omega (arith, h))
 back_four (a ∷ b ∷ c ∷ d ∷ []) h fits =
     let fa = fits 0 in let fb = fits 1 in let fc = fits 2 in let fd = fits 3 in
     same_four _ _ _ _ a b c d (omega (arith, fa, fb, fc, fd)) (omega (arith, fa, fb, fc, fd)) (omega (arith, fa, fb, fc, fd)) (omega (arith, fa, fb, fc, fd))
-back_four (a ∷ b ∷ c ∷ d ∷ x ∷ rest) h fits = absurd (omega (arith, h))
+back_four other h fits = absurd (omega (arith, h))
 
 below_four : (octets : List ℕ) → length octets ≡ 4 → IsOctets octets → number_of octets < 2 ^ 32
-below_four [] h fits = absurd (omega (arith, h))
-below_four (a ∷ []) h fits = absurd (omega (arith, h))
-below_four (a ∷ b ∷ []) h fits = absurd (omega (arith, h))
-below_four (a ∷ b ∷ c ∷ []) h fits = absurd (omega (arith, h))
 below_four (a ∷ b ∷ c ∷ d ∷ []) h fits =
     let fa = fits 0 in let fb = fits 1 in let fc = fits 2 in let fd = fits 3 in omega (arith, fa, fb, fc, fd)
-below_four (a ∷ b ∷ c ∷ d ∷ x ∷ rest) h fits = absurd (omega (arith, h))
+below_four other h fits = absurd (omega (arith, h))
 
 pub wide_four : IsWide 4 (2 ^ 32)
 wide_four = record { len = λ n. refl; back = back_four; again = λ n lt. omega arith; below = below_four }
@@ -173,11 +157,10 @@ number_again size limit wide n rest lt =
 pub sized_takes : (octets : List ℕ) (y : List ℕ × List ℕ) → IsOctets octets → sized_at octets ≡ Ok y → Takes octets (sized y.0) y.1 × (length y.0 < 2 ^ 16)
 unfolding sized_at
 sized_takes octets y fits e =
-    let a = bind_ok (number_at 2 octets) (λ size. octets_at size.0 size.1) y e in
-    let first = number_takes 2 (2 ^ 16) wide_two octets a.0 fits a.1 in
-    let second = octets_takes a.0.0 a.0.1 y first.0.rest_fits a.2 in
-    let both = Takes-then octets (be a.0.0 2) a.0.1 y.0 y.1 first.0 second.0 in
-    (subst (λ (n : ℕ). Takes octets (be n 2 ++ y.0) y.1) (sym second.1) both, rw second.1 first.1)
+    took (number_at 2 octets) _ y (λ x. number_takes 2 (2 ^ 16) wide_two octets x fits) e (λ a first ea.
+    let second = octets_takes a.0 a.1 y first.0.rest_fits ea in
+    let both = Takes-then octets (be a.0 2) a.1 y.0 y.1 first.0 second.0 in
+    (subst (λ (n : ℕ). Takes octets (be n 2 ++ y.0) y.1) (sym second.1) both, rw second.1 first.1))
 
 pub sized_again : (x rest : List ℕ) → length x < 2 ^ 16 → sized_at (sized x ++ rest) ≡ Ok (x, rest)
 unfolding sized_at

@@ -1,5 +1,5 @@
 -- A message that is read is spelled so, and what is spelled so is read.
-use Rattle.std.proofs.Common.{◌≡◌, ℕ, zero, suc, ◌+◌, ◌%◌, ◌^◌, ◌<◌, ◌≤◌, Bool, true, cond, nat_eq, List, [], ◌∷◌, ◌++◌, length, map, Result, Ok, Err, refl, sym, ap, subst, ◌∙◌, append_assoc, arith}
+use Rattle.std.proofs.Common.{◌≡◌, ℕ, zero, suc, ◌+◌, ◌%◌, ◌^◌, ◌<◌, ◌≤◌, true, nat_eq, List, [], ◌∷◌, ◌++◌, length, map, Result, Ok, Err, refl, sym, ap, subst, ◌∙◌, append_assoc, arith}
 use Rattle.std.specs.List.{flat_map, AllByRecursion}
 use Rattle.std.proofs.lemmas.Bool.{eqb-true}
 use Rattle.std.proofs.lemmas.List.{append-nil, nil_from_length}
@@ -13,8 +13,8 @@ use Rattle.sg_mikey.specs.declared.message.Header.{Header}
 use Rattle.sg_mikey.specs.declared.message.Message.{Message}
 use Rattle.sg_mikey.specs.declared.payload.Payload.{Payload}
 use Rattle.sg_mikey.specs.Spelling.{payload_number, next_number, chain_octets, entry_octets, message_octets, IsEntry, IsMessage}
-use Rattle.sg_mikey.specs.Reading.{◌>>=◌, stop, is_number, octet_at, up_to_at, number_at, next_at, version_at, verify_bit_at, chain_at, entry_at, entries_at, header_at, whole_at, message_of, placed}
-use Rattle.sg_mikey.proofs.FieldLaws.{IsOctets, bind_ok, took, pass_ok, ok_is, Takes, Takes-then, octet_takes, octet_again, up_to_takes, up_to_again, wide_four, number_takes, number_again, next_takes, next_again, version_takes, version_again, verify_octet, verify_takes, verify_again}
+use Rattle.sg_mikey.specs.Reading.{stop, is_number, octet_at, up_to_at, number_at, next_at, version_at, verify_bit_at, chain_at, entry_at, entries_at, header_at, whole_at, message_of, placed}
+use Rattle.sg_mikey.proofs.FieldLaws.{IsOctets, took, pass_ok, ok_is, Takes, Takes-then, octet_takes, octet_again, up_to_takes, up_to_again, wide_four, number_takes, number_again, next_takes, next_again, version_takes, version_again, verify_octet, verify_takes, verify_again}
 use Rattle.sg_mikey.proofs.Orders.{chain_of, accepts_chain}
 use Rattle.sg_mikey.proofs.ChainLaws.{TakesChain, chain_takes, chain_again, next_known, length-chain_octets}
 
@@ -23,12 +23,11 @@ use Rattle.sg_mikey.proofs.ChainLaws.{TakesChain, chain_takes, chain_again, next
 entry_takes : (octets : List ℕ) (y : CsEntry × List ℕ) → IsOctets octets → entry_at octets ≡ Ok y → Takes octets (entry_octets y.0) y.1 × IsEntry y.0
 unfolding entry_at
 entry_takes octets y fits e =
-    let a = took (octet_at octets) _ y (λ x. octet_takes octets x fits) e in
-    let b = took (number_at 4 a.0.1) _ y (λ x. number_takes 4 (2 ^ 32) wide_four a.0.1 x a.1.0.rest_fits) a.2 in
-    let c = took (number_at 4 b.0.1) _ y (λ x. number_takes 4 (2 ^ 32) wide_four b.0.1 x b.1.0.rest_fits) b.2 in
-    let made : CsEntry × List ℕ = (record { policy = a.0.0; ssrc = b.0.0; roc = c.0.0 }, c.0.1) in
-    subst (λ (z : CsEntry × List ℕ). Takes octets (entry_octets z.0) z.1 × IsEntry z.0) (ok_is made y c.2)
-    (Takes-then _ _ _ _ _ a.1.0 (Takes-then _ _ _ _ _ b.1.0 c.1.0), (b.1.1, c.1.1))
+    took (octet_at octets) _ y (λ x. octet_takes octets x fits) e (λ a ta ea.
+    took (number_at 4 a.1) _ y (λ x. number_takes 4 (2 ^ 32) wide_four a.1 x ta.0.rest_fits) ea (λ b tb eb.
+    took (number_at 4 b.1) _ y (λ x. number_takes 4 (2 ^ 32) wide_four b.1 x tb.0.rest_fits) eb (λ c tc ec.
+    subst (λ (z : CsEntry × List ℕ). Takes octets (entry_octets z.0) z.1 × IsEntry z.0) (ok_is (record { policy = a.0; ssrc = b.0; roc = c.0 }, c.1) y ec)
+    (Takes-then _ _ _ _ _ ta.0 (Takes-then _ _ _ _ _ tb.0 tc.0), (tb.1, tc.1)))))
 
 entry_again : (x : CsEntry) (rest : List ℕ) → IsEntry x → entry_at (entry_octets x ++ rest) ≡ Ok (x, rest)
 unfolding entry_at
@@ -47,14 +46,10 @@ entries_take zero octets y fits e =
     subst (λ (z : List CsEntry × List ℕ). Takes octets (flat_map entry_octets z.0) z.1 × (length z.0 ≡ 0) × AllByRecursion IsEntry z.0) (ok_is none y e)
     (record { parts = refl; rest_fits = fits }, refl, tt)
 entries_take (suc count) octets y fits e =
-    let a = bind_ok (entry_at octets) (λ first. entries_at count first.1 >>= λ others. Ok (first.0 ∷ others.0, others.1)) y e in
-    let b = bind_ok (entries_at count a.0.1) (λ others. Ok (a.0.0 ∷ others.0, others.1)) y a.2 in
-    let first = entry_takes octets a.0 fits a.1 in
-    let second = entries_take count a.0.1 b.0 first.0.rest_fits b.1 in
-    let both = Takes-then octets (entry_octets a.0.0) a.0.1 (flat_map entry_octets b.0.0) b.0.1 first.0 second.0 in
-    let made : List CsEntry × List ℕ = (a.0.0 ∷ b.0.0, b.0.1) in
-    subst (λ (z : List CsEntry × List ℕ). Takes octets (flat_map entry_octets z.0) z.1 × (length z.0 ≡ suc count) × AllByRecursion IsEntry z.0) (ok_is made y b.2)
-    (rw flat_map-cons both, ap suc second.1, (first.1, second.2))
+    took (entry_at octets) _ y (λ x. entry_takes octets x fits) e (λ a ta ea.
+    took (entries_at count a.1) _ y (λ x. entries_take count a.1 x ta.0.rest_fits) ea (λ b tb eb.
+    subst (λ (z : List CsEntry × List ℕ). Takes octets (flat_map entry_octets z.0) z.1 × (length z.0 ≡ suc count) × AllByRecursion IsEntry z.0) (ok_is (a.0 ∷ b.0, b.1) y eb)
+    (rw flat_map-cons (Takes-then octets (entry_octets a.0) a.1 (flat_map entry_octets b.0) b.1 ta.0 tb.0), ap suc tb.1, (ta.1, tb.2))))
 
 entries_again : (xs : List CsEntry) (rest : List ℕ) → AllByRecursion IsEntry xs → entries_at (length xs) (flat_map entry_octets xs ++ rest) ≡ Ok (xs, rest)
 unfolding entries_at
@@ -76,41 +71,23 @@ record IsHeader (h : Header) : Type 0 where
   csb : h.csb < 2 ^ 32
   count : h.count < 2 ^ 8
 
-abbrev header_ok : Header × List ℕ → Result (Header × List ℕ) Stop
-header_ok x = Ok x
-
--- the parts of a header, put together
-header_made : (octets a : List ℕ) (b c : ℕ × List ℕ) (d : Bool × List ℕ) (f g h : ℕ × List ℕ) (y : Header × List ℕ)
-    → Takes octets (1 ∷ []) a → Takes a (b.0 ∷ []) b.1 → b.0 ≤ 1 → Takes b.1 (c.0 ∷ []) c.1 → Takes c.1 (verify_octet d.0 ∷ []) d.1
-    → Takes d.1 (be f.0 4) f.1 → f.0 < 2 ^ 32 → Takes f.1 (g.0 ∷ []) g.1 → g.0 < 256 → Takes g.1 (h.0 ∷ []) h.1 → h.0 ≤ 0
-    → header_ok (record { kind = b.0; next = c.0; verify = d.0; csb = f.0; count = g.0 }, h.1) ≡ header_ok y → Takes octets (header_octets y.0) y.1 × IsHeader y.0
-header_made octets a b c d f g h y ta tb kind tc td tf csb tg count th least e =
-    let zero_is : h.0 ≡ 0 = omega arith in
-    let form : Takes g.1 (0 ∷ []) h.1 = subst (λ (n : ℕ). Takes g.1 (n ∷ []) h.1) zero_is th in
-    let back = Takes-then d.1 _ _ _ _ tf (Takes-then f.1 _ _ _ _ tg form) in
-    let whole = Takes-then octets _ _ _ _ ta (Takes-then a _ _ _ _ tb (Takes-then b.1 _ _ _ _ tc (Takes-then c.1 _ _ _ _ td back))) in
-    let made : Header × List ℕ = (record { kind = b.0; next = c.0; verify = d.0; csb = f.0; count = g.0 }, h.1) in
-    subst (λ (z : Header × List ℕ). Takes octets (header_octets z.0) z.1 × IsHeader z.0) (ok_is made y e)
-    (whole, record { kind = kind; csb = csb; count = count })
-
 header_takes : (octets : List ℕ) (y : Header × List ℕ) → IsOctets octets → header_at octets ≡ Ok y → Takes octets (header_octets y.0) y.1 × IsHeader y.0
 unfolding header_at
 header_takes octets y fits e =
-    let a = bind_ok (version_at octets) (λ version. up_to_at 1 faults.DataType version.1 >>= λ kind. next_at kind.1 >>= λ next. verify_bit_at next.1 >>= λ verify. number_at 4 verify.1 >>= λ csb. octet_at csb.1 >>= λ count. up_to_at 0 faults.Value count.1 >>= λ form. Ok (record { kind = kind.0; next = next.0; verify = verify.0; csb = csb.0; count = count.0 }, form.1)) y e in
-    let b = bind_ok (up_to_at 1 faults.DataType a.0.1) (λ kind. next_at kind.1 >>= λ next. verify_bit_at next.1 >>= λ verify. number_at 4 verify.1 >>= λ csb. octet_at csb.1 >>= λ count. up_to_at 0 faults.Value count.1 >>= λ form. Ok (record { kind = kind.0; next = next.0; verify = verify.0; csb = csb.0; count = count.0 }, form.1)) y a.2 in
-    let c = bind_ok (next_at b.0.1) (λ next. verify_bit_at next.1 >>= λ verify. number_at 4 verify.1 >>= λ csb. octet_at csb.1 >>= λ count. up_to_at 0 faults.Value count.1 >>= λ form. Ok (record { kind = b.0.0; next = next.0; verify = verify.0; csb = csb.0; count = count.0 }, form.1)) y b.2 in
-    let d = bind_ok (verify_bit_at c.0.1) (λ verify. number_at 4 verify.1 >>= λ csb. octet_at csb.1 >>= λ count. up_to_at 0 faults.Value count.1 >>= λ form. Ok (record { kind = b.0.0; next = c.0.0; verify = verify.0; csb = csb.0; count = count.0 }, form.1)) y c.2 in
-    let f = bind_ok (number_at 4 d.0.1) (λ csb. octet_at csb.1 >>= λ count. up_to_at 0 faults.Value count.1 >>= λ form. Ok (record { kind = b.0.0; next = c.0.0; verify = d.0.0; csb = csb.0; count = count.0 }, form.1)) y d.2 in
-    let g = bind_ok (octet_at f.0.1) (λ count. up_to_at 0 faults.Value count.1 >>= λ form. Ok (record { kind = b.0.0; next = c.0.0; verify = d.0.0; csb = f.0.0; count = count.0 }, form.1)) y f.2 in
-    let h = bind_ok (up_to_at 0 faults.Value g.0.1) (λ form. Ok (record { kind = b.0.0; next = c.0.0; verify = d.0.0; csb = f.0.0; count = g.0.0 }, form.1)) y g.2 in
-    let ta = version_takes octets a.0 fits a.1 in
-    let tb = up_to_takes 1 faults.DataType a.0.1 b.0 ta.rest_fits b.1 in
-    let tc = next_takes b.0.1 c.0 tb.0.rest_fits c.1 in
-    let td = verify_takes c.0.1 d.0 tc.0.rest_fits d.1 in
-    let tf = number_takes 4 (2 ^ 32) wide_four d.0.1 f.0 td.rest_fits f.1 in
-    let tg = octet_takes f.0.1 g.0 tf.0.rest_fits g.1 in
-    let th = up_to_takes 0 faults.Value g.0.1 h.0 tg.0.rest_fits h.1 in
-    header_made octets a.0.1 b.0 c.0 d.0 f.0 g.0 h.0 y ta tb.0 tb.1 tc.0 td tf.0 tf.1 tg.0 tg.1 th.0 th.1 h.2
+    took (version_at octets) _ y (λ x. version_takes octets x fits) e (λ a ta ea.
+    took (up_to_at 1 faults.DataType a.1) _ y (λ x. up_to_takes 1 faults.DataType a.1 x ta.rest_fits) ea (λ b tb eb.
+    took (next_at b.1) _ y (λ x. next_takes b.1 x tb.0.rest_fits) eb (λ c tc ec.
+    took (verify_bit_at c.1) _ y (λ x. verify_takes c.1 x tc.0.rest_fits) ec (λ d td ed.
+    took (number_at 4 d.1) _ y (λ x. number_takes 4 (2 ^ 32) wide_four d.1 x td.rest_fits) ed (λ f tf ef.
+    took (octet_at f.1) _ y (λ x. octet_takes f.1 x tf.0.rest_fits) ef (λ g tg eg.
+    took (up_to_at 0 faults.Value g.1) _ y (λ x. up_to_takes 0 faults.Value g.1 x tg.0.rest_fits) eg (λ h th eh.
+    let zero_is : h.0 ≡ 0 = omega (arith, th.1) in
+    let form : Takes g.1 (0 ∷ []) h.1 = subst (λ (n : ℕ). Takes g.1 (n ∷ []) h.1) zero_is th.0 in
+    let back = Takes-then d.1 _ _ _ _ tf.0 (Takes-then f.1 _ _ _ _ tg.0 form) in
+    let whole = Takes-then octets _ _ _ _ ta (Takes-then a.1 _ _ _ _ tb.0 (Takes-then b.1 _ _ _ _ tc.0 (Takes-then c.1 _ _ _ _ td back))) in
+    subst (λ (z : Header × List ℕ). Takes octets (header_octets z.0) z.1 × IsHeader z.0)
+    (ok_is (record { kind = b.0; next = c.0; verify = d.0; csb = f.0; count = g.0 }, h.1) y eh)
+    (whole, record { kind = tb.1; csb = tf.1; count = tg.1 }))))))))
 
 -- ---- the whole message
 
@@ -141,17 +118,12 @@ whole_made octets h behind map' rest ps left ta is tb count entries tc nothing =
 pub whole_takes : (octets : List ℕ) (m : Message) → IsOctets octets → whole_at octets ≡ Ok m → IsMessage m × (octets ≡ message_octets m)
 unfolding whole_at
 whole_takes octets m fits e =
-    let a = bind_ok (header_at octets) (λ header. entries_at header.0.count header.1 >>= λ map. chain_at (length map.1 + 1) header.0.kind BeforeTime header.0.next map.1 >>= λ chain. cond (nat_eq (length chain.1) 0) (Ok (record { kind = header.0.kind; verify = header.0.verify; csb = header.0.csb; map = map.0; payloads = chain.0 })) (Err (stop chain.1 faults.Trailing))) m e in
-    let b = bind_ok (entries_at a.0.0.count a.0.1) (λ map. chain_at (length map.1 + 1) a.0.0.kind BeforeTime a.0.0.next map.1 >>= λ chain. cond (nat_eq (length chain.1) 0) (Ok (record { kind = a.0.0.kind; verify = a.0.0.verify; csb = a.0.0.csb; map = map.0; payloads = chain.0 })) (Err (stop chain.1 faults.Trailing))) m a.2 in
-    let c = bind_ok (chain_at (length b.0.1 + 1) a.0.0.kind BeforeTime a.0.0.next b.0.1) (λ chain. cond (nat_eq (length chain.1) 0) (Ok (record { kind = a.0.0.kind; verify = a.0.0.verify; csb = a.0.0.csb; map = b.0.0; payloads = chain.0 })) (Err (stop chain.1 faults.Trailing))) m b.2 in
-    let made : Message = record { kind = a.0.0.kind; verify = a.0.0.verify; csb = a.0.0.csb; map = b.0.0; payloads = c.0.0 } in
-    let g = pass_ok (nat_eq (length c.0.1) 0) (stop c.0.1 faults.Trailing) made m c.2 in
-    let ta = header_takes octets a.0 fits a.1 in
-    let tb = entries_take a.0.0.count a.0.1 b.0 ta.0.rest_fits b.1 in
-    let tc = chain_takes (length b.0.1 + 1) a.0.0.kind BeforeTime a.0.0.next b.0.1 c.0 tb.0.rest_fits c.1 in
-    let nothing : c.0.1 ≡ [] = nil_from_length c.0.1 (eqb-true _ _ g.0) in
+    took (header_at octets) _ m (λ x. header_takes octets x fits) e (λ a ta ea.
+    took (entries_at a.0.count a.1) _ m (λ x. entries_take a.0.count a.1 x ta.0.rest_fits) ea (λ b tb eb.
+    took (chain_at (length b.1 + 1) a.0.kind BeforeTime a.0.next b.1) _ m (λ x. chain_takes (length b.1 + 1) a.0.kind BeforeTime a.0.next b.1 x tb.0.rest_fits) eb (λ c tc ec.
+    let g = pass_ok (nat_eq (length c.1) 0) (stop c.1 faults.Trailing) (record { kind = a.0.kind; verify = a.0.verify; csb = a.0.csb; map = b.0; payloads = c.0 }) m ec in
     subst (λ (z : Message). IsMessage z × (octets ≡ message_octets z)) g.1
-    (whole_made octets a.0.0 a.0.1 b.0.0 b.0.1 c.0.0 c.0.1 ta.0 ta.1 tb.0 tb.1 tb.2 tc nothing)
+    (whole_made octets a.0 a.1 b.0 b.1 c.0 c.1 ta.0 ta.1 tb.0 tb.1 tb.2 tc (nil_from_length c.1 (eqb-true _ _ g.0))))))
 
 header_again : (h : Header) (rest : List ℕ) → IsHeader h → is_number h.next ≡ true → header_at (header_octets h ++ rest) ≡ Ok (h, rest)
 unfolding header_at

@@ -10,7 +10,7 @@ use Rattle.sg_mikey.specs.declared.payload.Payload.TheVariants.{Time, Random, Id
 use Rattle.sg_mikey.specs.declared.policy.Policy.{Policy}
 use Rattle.sg_mikey.specs.Spelling.{payload_number, sized, item_octets, body_octets, tag_length, FitsItem, IsPayload}
 use Rattle.sg_mikey.specs.Reading.{◌>>=◌, Chained, octet_at, up_to_at, octets_at, number_at, sized_at, is_number, next_at, kemac_at, time_at, id_at, verify_at, random_at, extension_at, item_type_at, item_at, items_at, policy_at, payload_at}
-use Rattle.sg_mikey.proofs.FieldLaws.{IsOctets, bind_ok, took, ok_is, Takes, Takes-then, octet_takes, octet_again, up_to_takes, up_to_again, octets_takes, octets_again, wide_two, number_takes, number_again, sized_takes, sized_again, next_takes, next_again, item_type_takes, item_type_again}
+use Rattle.sg_mikey.proofs.FieldLaws.{IsOctets, took, ok_is, Takes, Takes-then, octet_takes, octet_again, up_to_takes, up_to_again, octets_takes, octets_again, wide_two, number_takes, number_again, sized_takes, sized_again, next_takes, next_again, item_type_takes, item_type_again}
 
 -- what a reader of a payload took
 pub record TakesChained (octets : List ℕ) (number : ℕ) (link : Chained) : Type 0 where
@@ -24,15 +24,18 @@ pub record TakesChained (octets : List ℕ) (number : ℕ) (link : Chained) : Ty
 kemac_takes : (octets : List ℕ) (y : Chained) → IsOctets octets → kemac_at octets ≡ Ok y → TakesChained octets 1 y
 unfolding kemac_at
 kemac_takes octets y fits e =
-    let a = took (next_at octets) _ y (λ x. next_takes octets x fits) e in
-    let b = took (up_to_at 2 faults.Value a.0.1) _ y (λ x. up_to_takes 2 faults.Value a.0.1 x a.1.0.rest_fits) a.2 in
-    let c = took (sized_at b.0.1) _ y (λ x. sized_takes b.0.1 x b.1.0.rest_fits) b.2 in
-    let d = took (up_to_at 1 faults.Value c.0.1) _ y (λ x. up_to_takes 1 faults.Value c.0.1 x c.1.0.rest_fits) c.2 in
-    let t = took (octets_at (tag_length d.0.0) d.0.1) _ y (λ x. octets_takes (tag_length d.0.0) d.0.1 x d.1.0.rest_fits) d.2 in
-    let takes = Takes-then _ _ _ _ _ a.1.0 (Takes-then _ _ _ _ _ b.1.0 (Takes-then _ _ _ _ _ c.1.0 (Takes-then _ _ _ _ _ d.1.0 t.1.0))) in
-    let made : Chained = (Kemac b.0.0 c.0.0 d.0.0 t.0.0, a.0.0, t.0.1) in
-    subst (λ (z : Chained). TakesChained octets 1 z) (ok_is made y t.2)
-    (record { takes = takes; payload = (c.1.1, (b.1.1, d.1.1, t.1.1)); number_is = refl; known = a.1.1 })
+    took (next_at octets) _ y (λ x. next_takes octets x fits) e (λ a ta ea.
+    took (up_to_at 2 faults.Value a.1) _ y (λ x. up_to_takes 2 faults.Value a.1 x ta.0.rest_fits) ea (λ b tb eb.
+    took (sized_at b.1) _ y (λ x. sized_takes b.1 x tb.0.rest_fits) eb (λ c tc ec.
+    took (up_to_at 1 faults.Value c.1) _ y (λ x. up_to_takes 1 faults.Value c.1 x tc.0.rest_fits) ec (λ d td ed.
+    took (octets_at (tag_length d.0) d.1) _ y (λ x. octets_takes (tag_length d.0) d.1 x td.0.rest_fits) ed (λ t tt' et.
+    subst (λ (z : Chained). TakesChained octets 1 z) (ok_is (Kemac b.0 c.0 d.0 t.0, a.0, t.1) y et)
+    (record {
+      takes = Takes-then _ _ _ _ _ ta.0 (Takes-then _ _ _ _ _ tb.0 (Takes-then _ _ _ _ _ tc.0 (Takes-then _ _ _ _ _ td.0 tt'.0)));
+      payload = (tc.1, (tb.1, td.1, tt'.1));
+      number_is = refl;
+      known = ta.1;
+    }))))))
 
 kemac_again : (cipher : ℕ) (inner : List ℕ) (mac : ℕ) (tag : List ℕ) (next : ℕ) (rest : List ℕ) → IsPayload (Kemac cipher inner mac tag) → is_number next ≡ true
     → kemac_at (next ∷ (body_octets (Kemac cipher inner mac tag) ++ rest)) ≡ Ok (Kemac cipher inner mac tag, next, rest)
@@ -53,12 +56,11 @@ kemac_again cipher inner mac tag next rest p known =
 time_takes : (octets : List ℕ) (y : Chained) → IsOctets octets → time_at octets ≡ Ok y → TakesChained octets 5 y
 unfolding time_at
 time_takes octets y fits e =
-    let a = took (next_at octets) _ y (λ x. next_takes octets x fits) e in
-    let b = took (up_to_at 1 faults.Value a.0.1) _ y (λ x. up_to_takes 1 faults.Value a.0.1 x a.1.0.rest_fits) a.2 in
-    let c = took (octets_at 8 b.0.1) _ y (λ x. octets_takes 8 b.0.1 x b.1.0.rest_fits) b.2 in
-    let made : Chained = (Time b.0.0 c.0.0, a.0.0, c.0.1) in
-    subst (λ (z : Chained). TakesChained octets 5 z) (ok_is made y c.2)
-    (record { takes = Takes-then _ _ _ _ _ a.1.0 (Takes-then _ _ _ _ _ b.1.0 c.1.0); payload = (tt, (b.1.1, c.1.1)); number_is = refl; known = a.1.1 })
+    took (next_at octets) _ y (λ x. next_takes octets x fits) e (λ a ta ea.
+    took (up_to_at 1 faults.Value a.1) _ y (λ x. up_to_takes 1 faults.Value a.1 x ta.0.rest_fits) ea (λ b tb eb.
+    took (octets_at 8 b.1) _ y (λ x. octets_takes 8 b.1 x tb.0.rest_fits) eb (λ c tc ec.
+    subst (λ (z : Chained). TakesChained octets 5 z) (ok_is (Time b.0 c.0, a.0, c.1) y ec)
+    (record { takes = Takes-then _ _ _ _ _ ta.0 (Takes-then _ _ _ _ _ tb.0 tc.0); payload = (tt, (tb.1, tc.1)); number_is = refl; known = ta.1 }))))
 
 time_again : (form : ℕ) (stamp : List ℕ) (next : ℕ) (rest : List ℕ) → IsPayload (Time form stamp) → is_number next ≡ true
     → time_at (next ∷ (body_octets (Time form stamp) ++ rest)) ≡ Ok (Time form stamp, next, rest)
@@ -71,12 +73,11 @@ time_again form stamp next rest p known =
 id_takes : (octets : List ℕ) (y : Chained) → IsOctets octets → id_at octets ≡ Ok y → TakesChained octets 6 y
 unfolding id_at
 id_takes octets y fits e =
-    let a = took (next_at octets) _ y (λ x. next_takes octets x fits) e in
-    let b = took (up_to_at 1 faults.Value a.0.1) _ y (λ x. up_to_takes 1 faults.Value a.0.1 x a.1.0.rest_fits) a.2 in
-    let c = took (sized_at b.0.1) _ y (λ x. sized_takes b.0.1 x b.1.0.rest_fits) b.2 in
-    let made : Chained = (Id b.0.0 c.0.0, a.0.0, c.0.1) in
-    subst (λ (z : Chained). TakesChained octets 6 z) (ok_is made y c.2)
-    (record { takes = Takes-then _ _ _ _ _ a.1.0 (Takes-then _ _ _ _ _ b.1.0 c.1.0); payload = (c.1.1, b.1.1); number_is = refl; known = a.1.1 })
+    took (next_at octets) _ y (λ x. next_takes octets x fits) e (λ a ta ea.
+    took (up_to_at 1 faults.Value a.1) _ y (λ x. up_to_takes 1 faults.Value a.1 x ta.0.rest_fits) ea (λ b tb eb.
+    took (sized_at b.1) _ y (λ x. sized_takes b.1 x tb.0.rest_fits) eb (λ c tc ec.
+    subst (λ (z : Chained). TakesChained octets 6 z) (ok_is (Id b.0 c.0, a.0, c.1) y ec)
+    (record { takes = Takes-then _ _ _ _ _ ta.0 (Takes-then _ _ _ _ _ tb.0 tc.0); payload = (tc.1, tb.1); number_is = refl; known = ta.1 }))))
 
 id_again : (form : ℕ) (name : List ℕ) (next : ℕ) (rest : List ℕ) → IsPayload (Id form name) → is_number next ≡ true
     → id_at (next ∷ (body_octets (Id form name) ++ rest)) ≡ Ok (Id form name, next, rest)
@@ -89,12 +90,11 @@ id_again form name next rest p known =
 verify_takes : (octets : List ℕ) (y : Chained) → IsOctets octets → verify_at octets ≡ Ok y → TakesChained octets 9 y
 unfolding verify_at
 verify_takes octets y fits e =
-    let a = took (next_at octets) _ y (λ x. next_takes octets x fits) e in
-    let b = took (up_to_at 1 faults.Value a.0.1) _ y (λ x. up_to_takes 1 faults.Value a.0.1 x a.1.0.rest_fits) a.2 in
-    let c = took (octets_at (tag_length b.0.0) b.0.1) _ y (λ x. octets_takes (tag_length b.0.0) b.0.1 x b.1.0.rest_fits) b.2 in
-    let made : Chained = (Verify b.0.0 c.0.0, a.0.0, c.0.1) in
-    subst (λ (z : Chained). TakesChained octets 9 z) (ok_is made y c.2)
-    (record { takes = Takes-then _ _ _ _ _ a.1.0 (Takes-then _ _ _ _ _ b.1.0 c.1.0); payload = (tt, (b.1.1, c.1.1)); number_is = refl; known = a.1.1 })
+    took (next_at octets) _ y (λ x. next_takes octets x fits) e (λ a ta ea.
+    took (up_to_at 1 faults.Value a.1) _ y (λ x. up_to_takes 1 faults.Value a.1 x ta.0.rest_fits) ea (λ b tb eb.
+    took (octets_at (tag_length b.0) b.1) _ y (λ x. octets_takes (tag_length b.0) b.1 x tb.0.rest_fits) eb (λ c tc ec.
+    subst (λ (z : Chained). TakesChained octets 9 z) (ok_is (Verify b.0 c.0, a.0, c.1) y ec)
+    (record { takes = Takes-then _ _ _ _ _ ta.0 (Takes-then _ _ _ _ _ tb.0 tc.0); payload = (tt, (tb.1, tc.1)); number_is = refl; known = ta.1 }))))
 
 verify_again : (mac : ℕ) (tag : List ℕ) (next : ℕ) (rest : List ℕ) → IsPayload (Verify mac tag) → is_number next ≡ true
     → verify_at (next ∷ (body_octets (Verify mac tag) ++ rest)) ≡ Ok (Verify mac tag, next, rest)
@@ -107,14 +107,13 @@ verify_again mac tag next rest p known =
 random_takes : (octets : List ℕ) (y : Chained) → IsOctets octets → random_at octets ≡ Ok y → TakesChained octets 11 y
 unfolding random_at
 random_takes octets y fits e =
-    let a = took (next_at octets) _ y (λ x. next_takes octets x fits) e in
-    let b = took (octet_at a.0.1) _ y (λ x. octet_takes a.0.1 x a.1.0.rest_fits) a.2 in
-    let c = took (octets_at b.0.0 b.0.1) _ y (λ x. octets_takes b.0.0 b.0.1 x b.1.0.rest_fits) b.2 in
-    let size : b.0.0 ≡ length c.0.0 % 256 = omega (arith, b.1.1, c.1.1) in
-    let prefix : Takes a.0.1 (be (length c.0.0) 1) b.0.1 = subst (λ (n : ℕ). Takes a.0.1 (n ∷ []) b.0.1) size b.1.0 in
-    let made : Chained = (Random c.0.0, a.0.0, c.0.1) in
-    subst (λ (z : Chained). TakesChained octets 11 z) (ok_is made y c.2)
-    (record { takes = Takes-then _ _ _ _ _ a.1.0 (Takes-then _ _ _ _ _ prefix c.1.0); payload = (rw c.1.1 b.1.1, tt); number_is = refl; known = a.1.1 })
+    took (next_at octets) _ y (λ x. next_takes octets x fits) e (λ a ta ea.
+    took (octet_at a.1) _ y (λ x. octet_takes a.1 x ta.0.rest_fits) ea (λ b tb eb.
+    took (octets_at b.0 b.1) _ y (λ x. octets_takes b.0 b.1 x tb.0.rest_fits) eb (λ c tc ec.
+    let size : b.0 ≡ length c.0 % 256 = omega (arith, tb.1, tc.1) in
+    let prefix : Takes a.1 (be (length c.0) 1) b.1 = subst (λ (n : ℕ). Takes a.1 (n ∷ []) b.1) size tb.0 in
+    subst (λ (z : Chained). TakesChained octets 11 z) (ok_is (Random c.0, a.0, c.1) y ec)
+    (record { takes = Takes-then _ _ _ _ _ ta.0 (Takes-then _ _ _ _ _ prefix tc.0); payload = (rw tc.1 tb.1, tt); number_is = refl; known = ta.1 }))))
 
 random_again : (inner : List ℕ) (next : ℕ) (rest : List ℕ) → length inner < 2 ^ 8 → is_number next ≡ true
     → random_at (next ∷ (body_octets (Random inner) ++ rest)) ≡ Ok (Random inner, next, rest)
@@ -129,12 +128,11 @@ random_again inner next rest fits known =
 extension_takes : (octets : List ℕ) (y : Chained) → IsOctets octets → extension_at octets ≡ Ok y → TakesChained octets 21 y
 unfolding extension_at
 extension_takes octets y fits e =
-    let a = took (next_at octets) _ y (λ x. next_takes octets x fits) e in
-    let b = took (octet_at a.0.1) _ y (λ x. octet_takes a.0.1 x a.1.0.rest_fits) a.2 in
-    let c = took (sized_at b.0.1) _ y (λ x. sized_takes b.0.1 x b.1.0.rest_fits) b.2 in
-    let made : Chained = (Extension b.0.0 c.0.0, a.0.0, c.0.1) in
-    subst (λ (z : Chained). TakesChained octets 21 z) (ok_is made y c.2)
-    (record { takes = Takes-then _ _ _ _ _ a.1.0 (Takes-then _ _ _ _ _ b.1.0 c.1.0); payload = (c.1.1, tt); number_is = refl; known = a.1.1 })
+    took (next_at octets) _ y (λ x. next_takes octets x fits) e (λ a ta ea.
+    took (octet_at a.1) _ y (λ x. octet_takes a.1 x ta.0.rest_fits) ea (λ b tb eb.
+    took (sized_at b.1) _ y (λ x. sized_takes b.1 x tb.0.rest_fits) eb (λ c tc ec.
+    subst (λ (z : Chained). TakesChained octets 21 z) (ok_is (Extension b.0 c.0, a.0, c.1) y ec)
+    (record { takes = Takes-then _ _ _ _ _ ta.0 (Takes-then _ _ _ _ _ tb.0 tc.0); payload = (tc.1, tt); number_is = refl; known = ta.1 }))))
 
 extension_again : (form : ℕ) (inner : List ℕ) (next : ℕ) (rest : List ℕ) → IsPayload (Extension form inner) → is_number next ≡ true
     → extension_at (next ∷ (body_octets (Extension form inner) ++ rest)) ≡ Ok (Extension form inner, next, rest)
@@ -154,15 +152,14 @@ item_takes : (room : ℕ) (octets : List ℕ) (y : Item × List ℕ) → IsOctet
     → Takes octets (item_octets y.0) y.1 × FitsItem y.0 × (2 + length y.0.1 ≤ room)
 unfolding item_at
 item_takes room octets y fits e =
-    let a = took (item_type_at room octets) _ y (λ x. item_type_takes room octets x fits) e in
-    let b = took (up_to_at (room - 2) faults.Value a.0.1) _ y (λ x. up_to_takes (room - 2) faults.Value a.0.1 x a.1.0.rest_fits) a.2 in
-    let c = took (octets_at b.0.0 b.0.1) _ y (λ x. octets_takes b.0.0 b.0.1 x b.1.0.rest_fits) b.2 in
-    let small : b.0.0 < 256 = first_octet a.0.1 b.0.0 b.0.1 a.1.0.rest_fits b.1.0 in
-    let size : b.0.0 ≡ length c.0.0 % 256 = omega (arith, small, c.1.1) in
-    let prefix : Takes a.0.1 (be (length c.0.0) 1) b.0.1 = subst (λ (n : ℕ). Takes a.0.1 (n ∷ []) b.0.1) size b.1.0 in
-    let made : Item × List ℕ = ((a.0.0, c.0.0), c.0.1) in
-    subst (λ (z : Item × List ℕ). Takes octets (item_octets z.0) z.1 × FitsItem z.0 × (2 + length z.0.1 ≤ room)) (ok_is made y c.2)
-    (Takes-then _ _ _ _ _ a.1.0 (Takes-then _ _ _ _ _ prefix c.1.0), rw c.1.1 small, omega (arith, a.1.1, b.1.1, c.1.1))
+    took (item_type_at room octets) _ y (λ x. item_type_takes room octets x fits) e (λ a ta ea.
+    took (up_to_at (room - 2) faults.Value a.1) _ y (λ x. up_to_takes (room - 2) faults.Value a.1 x ta.0.rest_fits) ea (λ b tb eb.
+    took (octets_at b.0 b.1) _ y (λ x. octets_takes b.0 b.1 x tb.0.rest_fits) eb (λ c tc ec.
+    let small : b.0 < 256 = first_octet a.1 b.0 b.1 ta.0.rest_fits tb.0 in
+    let size : b.0 ≡ length c.0 % 256 = omega (arith, small, tc.1) in
+    let prefix : Takes a.1 (be (length c.0) 1) b.1 = subst (λ (n : ℕ). Takes a.1 (n ∷ []) b.1) size tb.0 in
+    subst (λ (z : Item × List ℕ). Takes octets (item_octets z.0) z.1 × FitsItem z.0 × (2 + length z.0.1 ≤ room)) (ok_is ((a.0, c.0), c.1) y ec)
+    (Takes-then _ _ _ _ _ ta.0 (Takes-then _ _ _ _ _ prefix tc.0), rw tc.1 small, omega (arith, ta.1, tb.1, tc.1)))))
 
 pub items_take : (fuel room : ℕ) (octets : List ℕ) (y : List Item × List ℕ) → IsOctets octets → room ≤ fuel → items_at fuel room octets ≡ Ok y
     → Takes octets (flat_map item_octets y.0) y.1 × (length (flat_map item_octets y.0) ≡ room) × AllByRecursion FitsItem y.0
@@ -176,15 +173,11 @@ items_take (suc fuel) zero octets y fits le e =
     subst (λ (z : List Item × List ℕ). Takes octets (flat_map item_octets z.0) z.1 × (length (flat_map item_octets z.0) ≡ 0) × AllByRecursion FitsItem z.0) (ok_is none y e)
     (record { parts = refl; rest_fits = fits }, refl, tt)
 items_take (suc fuel) (suc room) octets y fits le e =
-    let a = bind_ok (item_at (suc room) octets) (λ item. items_at fuel (suc room - (2 + length item.0.1)) item.1 >>= λ others. Ok (item.0 ∷ others.0, others.1)) y e in
-    let b = bind_ok (items_at fuel (suc room - (2 + length a.0.0.1)) a.0.1) (λ others. Ok (a.0.0 ∷ others.0, others.1)) y a.2 in
-    let first = item_takes (suc room) octets a.0 fits a.1 in
-    let second = items_take fuel (suc room - (2 + length a.0.0.1)) a.0.1 b.0 first.0.rest_fits (omega arith) b.1 in
-    let both = Takes-then octets (item_octets a.0.0) a.0.1 (flat_map item_octets b.0.0) b.0.1 first.0 second.0 in
-    let made : List Item × List ℕ = (a.0.0 ∷ b.0.0, b.0.1) in
-    let size : length (item_octets a.0.0 ++ flat_map item_octets b.0.0) ≡ suc room = omega (arith, length-append (item_octets a.0.0) (flat_map item_octets b.0.0), second.1, first.2) in
-    subst (λ (z : List Item × List ℕ). Takes octets (flat_map item_octets z.0) z.1 × (length (flat_map item_octets z.0) ≡ suc room) × AllByRecursion FitsItem z.0) (ok_is made y b.2)
-    (rw flat_map-cons both, ap length (flat_map-cons item_octets a.0.0 b.0.0) ∙ size, (first.1, second.2))
+    took (item_at (suc room) octets) _ y (λ x. item_takes (suc room) octets x fits) e (λ a ta ea.
+    took (items_at fuel (suc room - (2 + length a.0.1)) a.1) _ y (λ x. items_take fuel (suc room - (2 + length a.0.1)) a.1 x ta.0.rest_fits (omega arith)) ea (λ b tb eb.
+    let size : length (item_octets a.0 ++ flat_map item_octets b.0) ≡ suc room = omega (arith, length-append (item_octets a.0) (flat_map item_octets b.0), tb.1, ta.2) in
+    subst (λ (z : List Item × List ℕ). Takes octets (flat_map item_octets z.0) z.1 × (length (flat_map item_octets z.0) ≡ suc room) × AllByRecursion FitsItem z.0) (ok_is (a.0 ∷ b.0, b.1) y eb)
+    (rw flat_map-cons (Takes-then octets (item_octets a.0) a.1 (flat_map item_octets b.0) b.1 ta.0 tb.0), ap length (flat_map-cons item_octets a.0 b.0) ∙ size, (ta.1, tb.2))))
 
 item_again : (item : Item) (more : ℕ) (rest : List ℕ) → FitsItem item → item_at (2 + length item.1 + more) (item_octets item ++ rest) ≡ Ok (item, rest)
 unfolding item_at
@@ -254,40 +247,24 @@ items_enough (suc fuel) more room octets le =
 
 -- ---- SP
 
-abbrev ok_link : Chained → Result Chained Stop
-ok_link x = Ok x
-
--- the parts of a policy, put together
-policy_made : (octets : List ℕ) (a b c d : ℕ × List ℕ) (i : List Item × List ℕ) (y : Chained)
-    → Takes octets (a.0 ∷ []) a.1 → is_number a.0 ≡ true → Takes a.1 (b.0 ∷ []) b.1 → Takes b.1 (c.0 ∷ []) c.1 → c.0 ≤ 0 → Takes c.1 (be d.0 2) d.1 → d.0 < 2 ^ 16
-    → Takes d.1 (flat_map item_octets i.0) i.1 → length (flat_map item_octets i.0) ≡ d.0 → AllByRecursion FitsItem i.0
-    → ok_link (Sp (record { number = b.0; items = i.0 }), a.0, i.1) ≡ ok_link y → TakesChained octets 10 y
-policy_made octets a b c d i y ta known tb tc least td small ti size fit e =
-    let zero_is : c.0 ≡ 0 = omega arith in
-    let protocol : Takes b.1 (0 ∷ []) c.1 = subst (λ (n : ℕ). Takes b.1 (n ∷ []) c.1) zero_is tc in
-    let sizes : Takes c.1 (be (length (flat_map item_octets i.0)) 2) d.1 = subst (λ (n : ℕ). Takes c.1 (be n 2) d.1) (sym size) td in
-    let e1 = Takes-then c.1 (be (length (flat_map item_octets i.0)) 2) d.1 (flat_map item_octets i.0) i.1 sizes ti in
-    let e2 = Takes-then b.1 (0 ∷ []) c.1 (sized (flat_map item_octets i.0)) i.1 protocol e1 in
-    let e3 = Takes-then a.1 (b.0 ∷ []) b.1 (0 ∷ sized (flat_map item_octets i.0)) i.1 tb e2 in
-    let e4 = Takes-then octets (a.0 ∷ []) a.1 (b.0 ∷ 0 ∷ sized (flat_map item_octets i.0)) i.1 ta e3 in
-    let made : Chained = (Sp (record { number = b.0; items = i.0 }), a.0, i.1) in
-    subst (λ (z : Chained). TakesChained octets 10 z) (ok_is made y e)
-    (record { takes = e4; payload = ((rw size small, fit), tt); number_is = refl; known = known })
-
 policy_takes : (octets : List ℕ) (y : Chained) → IsOctets octets → policy_at octets ≡ Ok y → TakesChained octets 10 y
 unfolding policy_at
 policy_takes octets y fits e =
-    let a = bind_ok (next_at octets) (λ next. octet_at next.1 >>= λ number. up_to_at 0 faults.Value number.1 >>= λ protocol. number_at 2 protocol.1 >>= λ size. items_at size.0 size.0 size.1 >>= λ items. Ok (Sp (record { number = number.0; items = items.0 }), next.0, items.1)) y e in
-    let b = bind_ok (octet_at a.0.1) (λ number. up_to_at 0 faults.Value number.1 >>= λ protocol. number_at 2 protocol.1 >>= λ size. items_at size.0 size.0 size.1 >>= λ items. Ok (Sp (record { number = number.0; items = items.0 }), a.0.0, items.1)) y a.2 in
-    let c = bind_ok (up_to_at 0 faults.Value b.0.1) (λ protocol. number_at 2 protocol.1 >>= λ size. items_at size.0 size.0 size.1 >>= λ items. Ok (Sp (record { number = b.0.0; items = items.0 }), a.0.0, items.1)) y b.2 in
-    let d = bind_ok (number_at 2 c.0.1) (λ size. items_at size.0 size.0 size.1 >>= λ items. Ok (Sp (record { number = b.0.0; items = items.0 }), a.0.0, items.1)) y c.2 in
-    let i = bind_ok (items_at d.0.0 d.0.0 d.0.1) (λ items. Ok (Sp (record { number = b.0.0; items = items.0 }), a.0.0, items.1)) y d.2 in
-    let ta = next_takes octets a.0 fits a.1 in
-    let tb = octet_takes a.0.1 b.0 ta.0.rest_fits b.1 in
-    let tc = up_to_takes 0 faults.Value b.0.1 c.0 tb.0.rest_fits c.1 in
-    let td = number_takes 2 (2 ^ 16) wide_two c.0.1 d.0 tc.0.rest_fits d.1 in
-    let ti = items_take d.0.0 d.0.0 d.0.1 i.0 td.0.rest_fits (omega arith) i.1 in
-    policy_made octets a.0 b.0 c.0 d.0 i.0 y ta.0 ta.1 tb.0 tc.0 tc.1 td.0 td.1 ti.0 ti.1 ti.2 i.2
+    took (next_at octets) _ y (λ x. next_takes octets x fits) e (λ a ta ea.
+    took (octet_at a.1) _ y (λ x. octet_takes a.1 x ta.0.rest_fits) ea (λ b tb eb.
+    took (up_to_at 0 faults.Value b.1) _ y (λ x. up_to_takes 0 faults.Value b.1 x tb.0.rest_fits) eb (λ c tc ec.
+    took (number_at 2 c.1) _ y (λ x. number_takes 2 (2 ^ 16) wide_two c.1 x tc.0.rest_fits) ec (λ d td ed.
+    took (items_at d.0 d.0 d.1) _ y (λ x. items_take d.0 d.0 d.1 x td.0.rest_fits (omega arith)) ed (λ i ti ei.
+    let zero_is : c.0 ≡ 0 = omega (arith, tc.1) in
+    let protocol : Takes b.1 (0 ∷ []) c.1 = subst (λ (n : ℕ). Takes b.1 (n ∷ []) c.1) zero_is tc.0 in
+    let sizes : Takes c.1 (be (length (flat_map item_octets i.0)) 2) d.1 = subst (λ (n : ℕ). Takes c.1 (be n 2) d.1) (sym ti.1) td.0 in
+    subst (λ (z : Chained). TakesChained octets 10 z) (ok_is (Sp (record { number = b.0; items = i.0 }), a.0, i.1) y ei)
+    (record {
+      takes = Takes-then _ _ _ _ _ ta.0 (Takes-then _ _ _ _ _ tb.0 (Takes-then _ _ _ _ _ protocol (Takes-then _ _ _ _ _ sizes ti.0)));
+      payload = ((rw ti.1 td.1, ti.2), tt);
+      number_is = refl;
+      known = ta.1;
+    }))))))
 
 policy_again : (policy : Policy) (next : ℕ) (rest : List ℕ) → IsPayload (Sp policy) → is_number next ≡ true
     → policy_at (next ∷ (body_octets (Sp policy) ++ rest)) ≡ Ok (Sp policy, next, rest)

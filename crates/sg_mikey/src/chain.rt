@@ -5,7 +5,7 @@ ghost use Rattle.sg_mikey.specs.declared.chain.Stage.TheVariants.{Between};
 ghost use Rattle.sg_mikey.specs.Chain.{stage_after, is_over};
 
 // How far a chain has come.
-#[derive(Clone, Copy, Debug, PartialEq, Eq)]
+#[derive(Clone, Copy)]
 pub enum Stage {
     BeforeTime,
     BeforeRandom,
@@ -31,7 +31,7 @@ impl Stage {
     pub fn ends_at(self, number: u8) -> bool
         ensures { result ≡ (is_over self && (number == 0)) }
     {
-        self == Stage::Over && number == 0
+        matches!(self, Stage::Over) && number == 0
     }
 }
 

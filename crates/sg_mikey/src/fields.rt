@@ -88,8 +88,7 @@ pub fn read_sized(octets: &[u8]) -> Result<(&[u8], &[u8]), Halt>
     ensures { Gives (λ x. (x.0.now, x.1.now)) result (sized_at octets.now) }
 {
     let (size, rest) = read_two(octets)?;
-    let (inner, rest) = read_octets(rest, usize::from(size))?;
-    Ok((inner, rest))
+    read_octets(rest, usize::from(size))
 }
 
 // Whether a chain can name a payload so.

@@ -1,6 +1,6 @@
 //! A message's one spelling.
 
-ghost use Rattle.std.specs.Prelude.{◌≡◌, ◌++◌, OnOk, IfOk};
+ghost use Rattle.std.specs.Prelude.{◌≡◌, ◌∷◌, ◌++◌, OnOk, IfOk};
 ghost use Rattle.std.specs.List.{flat_map};
 ghost use Rattle.sg_mikey.specs.Spelling.{short, sized, item_octets, body_octets, chain_octets, entry_octets, message_octets, next_number};
 
@@ -8,23 +8,28 @@ use crate::{CsEntry, Message, Payload, Policy};
 use sg_base::{NoMemory, Octets, octets_of_u32};
 use std::alloc::Global;
 
-// Octets behind their number in one octet.
-fn put_short(out: &mut Vec<u8>, octets: &[u8]) -> Result<(), NoMemory>
-    ensures { OnOk result (out.new.items ≡ out.old.items ++ short octets.now) }
+// Octets behind another.
+fn put_behind(out: &mut Vec<u8>, first: u8, octets: &[u8]) -> Result<(), NoMemory>
+    ensures { OnOk result (out.new.items ≡ out.old.items ++ first ∷ octets.now) }
 {
-    out.push((octets.len() % 256) as u8)?;
+    out.push(first)?;
     out.extend_from_slice(octets)?;
     Ok(())
 }
 
-// Octets behind their number in two octets.
-fn put_sized(out: &mut Vec<u8>, octets: &[u8]) -> Result<(), NoMemory>
-    ensures { OnOk result (out.new.items ≡ out.old.items ++ sized octets.now) }
+// Octets behind their number in one octet.
+fn put_short(out: &mut Vec<u8>, octets: &[u8]) -> Result<(), NoMemory>
+    ensures { OnOk result (out.new.items ≡ out.old.items ++ short octets.now) }
 {
-    out.push((octets.len() / 256 % 256) as u8)?;
-    out.push((octets.len() % 256) as u8)?;
-    out.extend_from_slice(octets)?;
-    Ok(())
+    put_behind(out, (octets.len() % 256) as u8, octets)
+}
+
+// Octets behind another and their number in two octets.
+fn put_sized(out: &mut Vec<u8>, first: u8, octets: &[u8]) -> Result<(), NoMemory>
+    ensures { OnOk result (out.new.items ≡ out.old.items ++ first ∷ sized octets.now) }
+{
+    out.extend_from_slice(&[first, (octets.len() / 256 % 256) as u8])?;
+    put_short(out, octets)
 }
 
 // Items of a policy.
@@ -47,8 +52,7 @@ fn put_policy(alloc: Global, out: &mut Vec<u8>, policy: &Policy) -> Result<(), N
     let mut items = Vec::new(alloc);
     put_items(&mut items, policy.items.as_slice())?;
     out.push(policy.number)?;
-    out.push(0)?;
-    put_sized(out, &items)
+    put_sized(out, 0, &items)
 }
 
 // A payload behind its next payload's number.
@@ -56,38 +60,21 @@ fn put_payload(alloc: Global, out: &mut Vec<u8>, payload: &Payload) -> Result<()
     ensures { OnOk result (out.new.items ≡ out.old.items ++ body_octets payload.now) }
 {
     match payload {
-        Payload::Time { form, stamp } => {
-            out.push(*form)?;
-            out.extend_from_slice(stamp)?;
-            Ok(())
-        }
+        Payload::Time { form, stamp } => put_behind(out, *form, stamp),
         Payload::Random { octets } => put_short(out, octets.as_slice()),
-        Payload::Id { form, name } => {
-            out.push(*form)?;
-            put_sized(out, name.as_slice())
-        }
+        Payload::Id { form, name } => put_sized(out, *form, name.as_slice()),
         Payload::Sp(policy) => put_policy(alloc, out, policy),
-        Payload::Extension { form, octets } => {
-            out.push(*form)?;
-            put_sized(out, octets.as_slice())
-        }
+        Payload::Extension { form, octets } => put_sized(out, *form, octets.as_slice()),
         Payload::Kemac {
             cipher,
             octets,
             mac,
             tag,
         } => {
-            out.push(*cipher)?;
-            put_sized(out, octets.as_slice())?;
-            out.push(*mac)?;
-            out.extend_from_slice(tag.as_slice())?;
-            Ok(())
+            put_sized(out, *cipher, octets.as_slice())?;
+            put_behind(out, *mac, tag.as_slice())
         }
-        Payload::Verify { mac, tag } => {
-            out.push(*mac)?;
-            out.extend_from_slice(tag.as_slice())?;
-            Ok(())
-        }
+        Payload::Verify { mac, tag } => put_behind(out, *mac, tag.as_slice()),
     }
 }
 
@@ -120,8 +107,7 @@ fn put_entries(out: &mut Vec<u8>, entries: &[CsEntry]) -> Result<(), NoMemory>
 {
     let mut rest = entries;
     while let [entry, others @ ..] = rest {
-        out.push(entry.policy)?;
-        out.extend_from_slice(&octets_of_u32(entry.ssrc))?;
+        put_behind(out, entry.policy, &octets_of_u32(entry.ssrc))?;
         out.extend_from_slice(&octets_of_u32(entry.roc))?;
         rest = others;
     }
@@ -135,14 +121,11 @@ pub fn print(alloc: Global, message: &Message) -> Result<Octets, NoMemory>
 {
     let payloads = message.payloads.as_slice();
     let entries = message.map.as_slice();
-    let mut out = Vec::new(alloc);
-    out.push(1)?;
-    out.push(message.kind)?;
-    out.push(first_number(payloads))?;
-    out.push(if message.verify { 128 } else { 0 })?;
+    let verify = if message.verify { 128 } else { 0 };
+    let start = [1, message.kind, first_number(payloads), verify];
+    let mut out = Vec::from_slice(alloc, &start)?;
     out.extend_from_slice(&octets_of_u32(message.csb))?;
-    out.push((entries.len() % 256) as u8)?;
-    out.push(0)?;
+    out.extend_from_slice(&[(entries.len() % 256) as u8, 0])?;
     put_entries(&mut out, entries)?;
     put_chain(alloc, &mut out, payloads)?;
     Ok(Octets::from_vec(out))

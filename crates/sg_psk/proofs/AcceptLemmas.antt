@@ -1,5 +1,5 @@
 -- What a message's payloads can hold, and how an answer goes on.
-use Rattle.std.proofs.Common.{◌≡◌, ◌<◌, ◌≤◌, ◌^◌, ℕ, List, [], ◌∷◌, length, Option, Some, None, Result, Ok, Err, refl, ap, subst, arith}
+use Rattle.std.proofs.Common.{◌≡◌, ◌<◌, ◌≤◌, ◌^◌, ℕ, List, ◌∷◌, length, Option, Some, None, Result, Ok, Err, refl, ap, subst, arith}
 use Rattle.std.specs.List.{AllByRecursion}
 use Rattle.std.proofs.lemmas.Bool.{lt-ltb, le-ltb}
 use Rattle.sg_base.specs.declared.faults.PskFault.TheVariants.{KeyType, CacheFull}
@@ -8,7 +8,7 @@ use Rattle.sg_mikey.specs.declared.message.Message.{Message}
 use Rattle.sg_mikey.specs.declared.message.Tgk.{Tgk}
 use Rattle.sg_mikey.specs.declared.message.Tgks.{Tgks}
 use Rattle.sg_mikey.specs.declared.payload.Payload.{Payload}
-use Rattle.sg_mikey.specs.declared.payload.Payload.TheVariants.{Time, Random, Id, Sp, Extension, Kemac, Verify}
+use Rattle.sg_mikey.specs.declared.payload.Payload.TheVariants.{Time, Random, Id, Sp, Extension, Kemac}
 use Rattle.sg_psk.specs.Accepting.{accepted_with, with_keys}
 use Rattle.sg_psk.specs.Parts.{closing_in}
 use Rattle.sg_psk.specs.StandsFor.{Gives, IsAccepted, OnNoMemory, or_fault}

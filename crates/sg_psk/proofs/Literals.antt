@@ -3,34 +3,12 @@ use Rattle.std.proofs.Common.{◌≡◌, ◌*◌, ◌^◌, ◌+◌, ℕ, List, [
 use Rattle.sg_base.specs.Octets.{number_from, number_of}
 
 pub eight : (xs : List ℕ) → length xs ≡ 8 → slice_index_or xs 0 0 ∷ slice_index_or xs 1 0 ∷ slice_index_or xs 2 0 ∷ slice_index_or xs 3 0 ∷ slice_index_or xs 4 0 ∷ slice_index_or xs 5 0 ∷ slice_index_or xs 6 0 ∷ slice_index_or xs 7 0 ∷ [] ≡ xs
-eight [] e = absurd (omega (arith, e))
-eight (a1 ∷ []) e = absurd (omega (arith, e))
-eight (a1 ∷ b1 ∷ []) e = absurd (omega (arith, e))
-eight (a1 ∷ b1 ∷ c1 ∷ []) e = absurd (omega (arith, e))
-eight (a1 ∷ b1 ∷ c1 ∷ d1 ∷ []) e = absurd (omega (arith, e))
-eight (a1 ∷ b1 ∷ c1 ∷ d1 ∷ e1 ∷ []) e = absurd (omega (arith, e))
-eight (a1 ∷ b1 ∷ c1 ∷ d1 ∷ e1 ∷ f1 ∷ []) e = absurd (omega (arith, e))
-eight (a1 ∷ b1 ∷ c1 ∷ d1 ∷ e1 ∷ f1 ∷ g1 ∷ []) e = absurd (omega (arith, e))
 eight (a1 ∷ b1 ∷ c1 ∷ d1 ∷ e1 ∷ f1 ∷ g1 ∷ h1 ∷ []) e = refl
-eight (a1 ∷ b1 ∷ c1 ∷ d1 ∷ e1 ∷ f1 ∷ g1 ∷ h1 ∷ z1 ∷ zs) e = absurd (omega (arith, e))
+eight other e = absurd (omega (arith, e))
 
 pub fourteen : (xs : List ℕ) → length xs ≡ 14 → slice_index_or xs 0 0 ∷ slice_index_or xs 1 0 ∷ slice_index_or xs 2 0 ∷ slice_index_or xs 3 0 ∷ slice_index_or xs 4 0 ∷ slice_index_or xs 5 0 ∷ slice_index_or xs 6 0 ∷ slice_index_or xs 7 0 ∷ slice_index_or xs 8 0 ∷ slice_index_or xs 9 0 ∷ slice_index_or xs 10 0 ∷ slice_index_or xs 11 0 ∷ slice_index_or xs 12 0 ∷ slice_index_or xs 13 0 ∷ [] ≡ xs
-fourteen [] e = absurd (omega (arith, e))
-fourteen (a1 ∷ []) e = absurd (omega (arith, e))
-fourteen (a1 ∷ b1 ∷ []) e = absurd (omega (arith, e))
-fourteen (a1 ∷ b1 ∷ c1 ∷ []) e = absurd (omega (arith, e))
-fourteen (a1 ∷ b1 ∷ c1 ∷ d1 ∷ []) e = absurd (omega (arith, e))
-fourteen (a1 ∷ b1 ∷ c1 ∷ d1 ∷ e1 ∷ []) e = absurd (omega (arith, e))
-fourteen (a1 ∷ b1 ∷ c1 ∷ d1 ∷ e1 ∷ f1 ∷ []) e = absurd (omega (arith, e))
-fourteen (a1 ∷ b1 ∷ c1 ∷ d1 ∷ e1 ∷ f1 ∷ g1 ∷ []) e = absurd (omega (arith, e))
-fourteen (a1 ∷ b1 ∷ c1 ∷ d1 ∷ e1 ∷ f1 ∷ g1 ∷ h1 ∷ []) e = absurd (omega (arith, e))
-fourteen (a1 ∷ b1 ∷ c1 ∷ d1 ∷ e1 ∷ f1 ∷ g1 ∷ h1 ∷ i1 ∷ []) e = absurd (omega (arith, e))
-fourteen (a1 ∷ b1 ∷ c1 ∷ d1 ∷ e1 ∷ f1 ∷ g1 ∷ h1 ∷ i1 ∷ j1 ∷ []) e = absurd (omega (arith, e))
-fourteen (a1 ∷ b1 ∷ c1 ∷ d1 ∷ e1 ∷ f1 ∷ g1 ∷ h1 ∷ i1 ∷ j1 ∷ k1 ∷ []) e = absurd (omega (arith, e))
-fourteen (a1 ∷ b1 ∷ c1 ∷ d1 ∷ e1 ∷ f1 ∷ g1 ∷ h1 ∷ i1 ∷ j1 ∷ k1 ∷ l1 ∷ []) e = absurd (omega (arith, e))
-fourteen (a1 ∷ b1 ∷ c1 ∷ d1 ∷ e1 ∷ f1 ∷ g1 ∷ h1 ∷ i1 ∷ j1 ∷ k1 ∷ l1 ∷ m1 ∷ []) e = absurd (omega (arith, e))
 fourteen (a1 ∷ b1 ∷ c1 ∷ d1 ∷ e1 ∷ f1 ∷ g1 ∷ h1 ∷ i1 ∷ j1 ∷ k1 ∷ l1 ∷ m1 ∷ n1 ∷ []) e = refl
-fourteen (a1 ∷ b1 ∷ c1 ∷ d1 ∷ e1 ∷ f1 ∷ g1 ∷ h1 ∷ i1 ∷ j1 ∷ k1 ∷ l1 ∷ m1 ∷ n1 ∷ z1 ∷ zs) e = absurd (omega (arith, e))
+fourteen other e = absurd (omega (arith, e))
 
 number_append : (n : ℕ) (xs ys : List ℕ) → number_from n (xs ++ ys) ≡ number_from (number_from n xs) ys
 number_append n [] ys = refl

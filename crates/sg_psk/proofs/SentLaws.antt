@@ -21,12 +21,8 @@ octets_take n octets h i =
     ]
 
 four_fit : (octets : List ℕ) → length octets ≡ 4 → AreOctets octets → number_of octets < 2 ^ 32
-four_fit [] e h = absurd (omega (arith, e))
-four_fit (a ∷ []) e h = absurd (omega (arith, e))
-four_fit (a ∷ b ∷ []) e h = absurd (omega (arith, e))
-four_fit (a ∷ b ∷ c ∷ []) e h = absurd (omega (arith, e))
 four_fit (a ∷ b ∷ c ∷ d ∷ []) e h = omega (arith, h 0, h 1, h 2, h 3)
-four_fit (a ∷ b ∷ c ∷ d ∷ f ∷ octets) e h = absurd (omega (arith, e))
+four_fit other e h = absurd (omega (arith, e))
 
 length-stamp : (now : ℕ) → length (stamp_of now) ≡ 8
 unfolding stamp_of

@@ -188,10 +188,10 @@ fn all_differ(keys: &[Tgk]) -> bool
 
 // The keys of at most eight payloads, up to the last, behind which nothing stands.
 #[tactic(auto, using(crate::proofs::KeyLemmas::no_part, crate::proofs::KeyLemmas::too_many))]
-fn read_keys(alloc: Global, octets: &[u8]) -> Result<Vec<Tgk>, PskError>
-    ensures { Gives (λ keys tgks. keys.items ≡ tgks) result (or_fault KeyType (keys_at 8 octets.now)) }
+fn read_keys(alloc: Global, octets: &[u8]) -> Result<Items<Tgk>, PskError>
+    ensures { Gives (λ keys tgks. keys ≡ tgks) result (or_fault KeyType (keys_at 8 octets.now)) }
 {
-    let mut keys = Vec::new(alloc);
+    let mut keys = Items::new(alloc);
     let mut rest = octets;
     for _ in 0..KEYS_MOST {
         let Some(part) = key_part_at(rest) else {
@@ -220,7 +220,5 @@ pub(crate) fn read_tgks(alloc: Global, octets: &[u8]) -> Result<Tgks, PskError>
     if !all_differ(keys.as_slice()) {
         return Err(PskError::Psk(PskFault::KeyType));
     }
-    Ok(Tgks {
-        keys: Items::from_vec(keys),
-    })
+    Ok(Tgks { keys })
 }

@@ -10,10 +10,10 @@ use std::alloc::Global;
 // Puts items behind, each of one octet.
 fn put_items(
     alloc: Global,
-    out: &mut Vec<(u8, Octets)>,
+    out: &mut Items<(u8, Octets)>,
     values: &[(u8, u8)],
 ) -> Result<(), NoMemory>
-    ensures { OnOk result (out.new.items ≡ out.old.items ++ map (λ v. (v.0, v.1 ∷ [])) values.now) }
+    ensures { OnOk result (out.new ≡ out.old ++ map (λ v. (v.0, v.1 ∷ [])) values.now) }
 {
     let mut rest = values;
     while let [value, others @ ..] = rest {
@@ -42,10 +42,7 @@ pub fn default_policy(alloc: Global) -> Result<Policy, NoMemory>
         (11, 10),
         (12, 0),
     ];
-    let mut items = Vec::new(alloc);
+    let mut items = Items::new(alloc);
     put_items(alloc, &mut items, &defaults)?;
-    Ok(Policy {
-        number: 0,
-        items: Items::from_vec(items),
-    })
+    Ok(Policy { number: 0, items })
 }

@@ -1,7 +1,7 @@
 //! Pre-shared keys, and the book that holds them (RFC 3830, 3.1).
 
 ghost use Rattle.std.specs.Prelude.{◌≡◌, ◌≤◌, ◌<◌, ◌∷◌, ◌++◌, [], Err, Some, length, position, slice_get, false, IfOk, IfErr, IfSome, IsTrue, OnOk, OnErr};
-ghost use Rattle.std.specs.List.{find, list_any};
+ghost use Rattle.std.specs.List.{find};
 ghost use Rattle.sg_base.specs.Octets.{same_octets};
 ghost use Rattle.sg_base.specs.declared.faults.Fault.TheVariants as faults;
 ghost use Rattle.sg_base.specs.declared.faults.Refusal.TheVariants as refusals;
@@ -107,11 +107,7 @@ impl PskBook {
     fn has(&self, own: &Identity, peer: &Identity) -> bool
         ensures { result ≡ has_pair self.now own.now peer.now }
     {
-        let (own, peer) = (own.as_slice(), peer.as_slice());
-        self.pairs
-            .as_slice()
-            .iter()
-            .any(|pair| is_of(own, peer, pair))
+        self.place_of(own.as_slice(), peer.as_slice()).is_some()
     }
 
     /// The pair at a position.

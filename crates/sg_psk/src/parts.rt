@@ -109,7 +109,7 @@ pub(crate) fn closing_in(payloads: &[Payload]) -> Closing<'_>
 fn copy_of(alloc: Global, policy: &Policy) -> Result<Policy, NoMemory>
     ensures { IfOk result (λ p. p ≡ policy.now) }
 {
-    let mut items = Vec::new(alloc);
+    let mut items = Items::new(alloc);
     let mut rest = policy.items.as_slice();
     while let [item, others @ ..] = rest {
         items.push((item.0, Octets::copy_of(alloc, item.1.as_slice())?))?;
@@ -117,7 +117,7 @@ fn copy_of(alloc: Global, policy: &Policy) -> Result<Policy, NoMemory>
     }
     Ok(Policy {
         number: policy.number,
-        items: Items::from_vec(items),
+        items,
     })
 }
 
@@ -126,7 +126,7 @@ fn copy_of(alloc: Global, policy: &Policy) -> Result<Policy, NoMemory>
 pub(crate) fn policies_in(alloc: Global, payloads: &[Payload]) -> Result<Items<Policy>, NoMemory>
     ensures { IfOk result (λ policies. policies ≡ policies_in payloads.now) }
 {
-    let mut policies = Vec::new(alloc);
+    let mut policies = Items::new(alloc);
     let mut rest = payloads;
     while let [payload, others @ ..] = rest {
         if let Payload::Sp(policy) = payload {
@@ -134,5 +134,5 @@ pub(crate) fn policies_in(alloc: Global, payloads: &[Payload]) -> Result<Items<P
         }
         rest = others;
     }
-    Ok(Items::from_vec(policies))
+    Ok(policies)
 }

@@ -6,7 +6,7 @@ ghost use Rattle.sg_mikey.specs.declared.payload.Payload.TheVariants.{Time, Id, 
 ghost use Rattle.sg_psk.specs.Envelope.{before_mac};
 ghost use Rattle.sg_psk.specs.KeyData.{key_text};
 ghost use Rattle.sg_psk.specs.Pairs.{pair_with};
-ghost use Rattle.sg_psk.specs.Sending.{answered_map, covered_key, initial_octets, key_of, one_key, own_map, payloads_of, response_fits, response_octets, response_of, sealed, sealed_response, sent_of, sent_under};
+ghost use Rattle.sg_psk.specs.Sending.{answered_map, covered_key, entry_of, initial_octets, key_of, one_key, own_map, payloads_of, response_fits, response_octets, response_of, sealed, sealed_response, sent_of, sent_under};
 ghost use Rattle.sg_psk.specs.StandsFor.{AreSent, Gives, OnNoMemory, accepted_as, sent_as};
 ghost use Rattle.sg_psk.specs.declared.pairs.Pair.{Pair};
 
@@ -34,6 +34,16 @@ pub struct Waiting {
     pub map: Items<CsEntry>,
 }
 
+fn entry_of(policy: u8, ssrc: u32) -> CsEntry
+    ensures { result ≡ entry_of policy ssrc }
+{
+    CsEntry {
+        policy,
+        ssrc,
+        roc: 0,
+    }
+}
+
 // For each medium a crypto session of the gateway, and one of the peer.
 #[tactic(auto, unfolding(crate::specs::Sending::own_map))]
 fn own_map(alloc: Global, ssrcs: &[u32]) -> Result<Items<CsEntry>, NoMemory>
@@ -42,16 +52,7 @@ fn own_map(alloc: Global, ssrcs: &[u32]) -> Result<Items<CsEntry>, NoMemory>
     let mut map = Vec::new(alloc);
     let mut rest = ssrcs;
     while let [ssrc, others @ ..] = rest {
-        map.push(CsEntry {
-            policy: 0,
-            ssrc: *ssrc,
-            roc: 0,
-        })?;
-        map.push(CsEntry {
-            policy: 0,
-            ssrc: 0,
-            roc: 0,
-        })?;
+        map.extend_from_slice(&[entry_of(0, *ssrc), entry_of(0, 0)])?;
         rest = others;
     }
     Ok(Items::from_vec(map))
@@ -96,12 +97,8 @@ fn answered_map(alloc: Global, map: &[CsEntry], ssrcs: &[u32]) -> Result<Items<C
     let mut rest = map;
     let mut left = ssrcs;
     'media: while let Some(next) = next_of(rest, left) {
-        entries.push(next.initiator)?;
-        entries.push(CsEntry {
-            policy: next.responder.policy,
-            ssrc: next.ssrc,
-            roc: 0,
-        })?;
+        let own = entry_of(next.responder.policy, next.ssrc);
+        entries.extend_from_slice(&[next.initiator, own])?;
         rest = next.entries;
         left = next.ssrcs;
     }
@@ -122,11 +119,8 @@ fn key_of(tgks: &Tgks) -> &[u8]
 fn key_text(alloc: Global, key: &[u8]) -> Result<Vec<u8>, NoMemory>
     ensures { IfOk result (λ text. text.items ≡ key_text key.now) }
 {
-    let mut text = Vec::new(alloc);
-    text.push(0)?;
-    text.push(0)?;
-    text.push((key.len() / 256 % 256) as u8)?;
-    text.push((key.len() % 256) as u8)?;
+    let size = [0, 0, (key.len() / 256 % 256) as u8, (key.len() % 256) as u8];
+    let mut text = Vec::from_slice(alloc, &size)?;
     text.extend_from_slice(key)?;
     Ok(text)
 }
@@ -300,11 +294,8 @@ fn sent_under(
 fn one_key(alloc: Global, key: &[u8]) -> Result<Tgks, NoMemory>
     ensures { IfOk result (λ tgks. tgks.keys ≡ one_key key.now) }
 {
-    let mut keys = Vec::new(alloc);
-    keys.push(Tgk {
-        key: Octets::copy_of(alloc, key)?,
-        spi: None,
-    })?;
+    let key = Octets::copy_of(alloc, key)?;
+    let keys = Vec::from_array(alloc, [Tgk { key, spi: None }])?;
     Ok(Tgks {
         keys: Items::from_vec(keys),
     })

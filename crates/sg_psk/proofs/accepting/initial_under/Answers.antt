@@ -1,4 +1,4 @@
-use Rattle.std.proofs.Common.{◌≡◌, sym}
+use Rattle.std.proofs.Common.{sym}
 use Rattle.sg_psk.proofs.AcceptLemmas.{anyway}
 use Rattle.sg_psk.proofs.accepting.initial_under.Goals as goal
 
