@@ -8,18 +8,12 @@ ghost use Rattle.sg_words.specs.Grammar as grammar;
 use clap::{Arg, ArgAction, Command};
 use std::alloc::{AllocError, Global};
 
-fn workers<'a>(alloc: Global) -> Arg<'a>
-    ensures rule { rule_of result ≡ grammar.workers }
+/// An option that has a value.
+fn option<'a>(alloc: Global, name: &'a str) -> Arg<'a>
+    ensures rule { rule_of result ≡ record (new_rule name.now) { long = Some name.now } }
     ensures local { result.global ≡ false }
 {
-    Arg::new(alloc, "workers").long("workers")
-}
-
-fn turns<'a>(alloc: Global) -> Arg<'a>
-    ensures rule { rule_of result ≡ grammar.turns }
-    ensures local { result.global ≡ false }
-{
-    Arg::new(alloc, "turns").long("turns").required(true)
+    Arg::new(alloc, name).long(name)
 }
 
 /// An option that has no value.
@@ -27,21 +21,15 @@ fn flag<'a>(alloc: Global, name: &'a str) -> Arg<'a>
     ensures rule { rule_of result ≡ grammar.flag name.now }
     ensures local { result.global ≡ false }
 {
-    Arg::new(alloc, name).long(name).action(ArgAction::SetTrue)
+    option(alloc, name).action(ArgAction::SetTrue)
 }
 
-fn calls<'a>(alloc: Global) -> Arg<'a>
-    ensures rule { rule_of result ≡ grammar.calls }
-    ensures local { result.global ≡ false }
+/// The required argument that this is made of.
+fn required<'a>(arg: Arg<'a>) -> Arg<'a>
+    ensures rule { rule_of result ≡ record (rule_of arg.entry) { required = true } }
+    ensures local { result.global ≡ arg.entry.global }
 {
-    Arg::new(alloc, "calls").required(true)
-}
-
-fn start<'a>(alloc: Global) -> Arg<'a>
-    ensures rule { rule_of result ≡ grammar.start }
-    ensures local { result.global ≡ false }
-{
-    Arg::new(alloc, "start").required(true)
+    arg.required(true)
 }
 
 /// The command of this name with the option `--workers` alone.
@@ -49,116 +37,73 @@ fn with_workers<'a>(alloc: Global, name: &'a str) -> Result<Command<'a>, AllocEr
     ensures shape { IfOk result (λ c. app_of c ≡ with_rule (new_app name.now) grammar.workers) }
     ensures local { IfOk result (λ c. (out-Command c).has_globals ≡ false) }
 {
-    Command::new(alloc, name).arg(workers(alloc))
+    Command::new(alloc, name).arg(option(alloc, "workers"))
 }
 
 fn replay<'a>(alloc: Global) -> Result<Command<'a>, AllocError>
     ensures shape { IfOk result (λ c. app_of c ≡ grammar.replay) }
     ensures local { IfOk result (λ c. (out-Command c).has_globals ≡ false) }
 {
-    match with_workers(alloc, "replay") {
-        Ok(command) => command.arg(flag(alloc, "mux")),
-        Err(error) => Err(error),
-    }
+    with_workers(alloc, "replay")?.arg(flag(alloc, "mux"))
 }
 
 fn relay<'a>(alloc: Global) -> Result<Command<'a>, AllocError>
     ensures shape { IfOk result (λ c. app_of c ≡ grammar.relay) }
     ensures local { IfOk result (λ c. (out-Command c).has_globals ≡ false) }
 {
-    match Command::new(alloc, "relay").arg(turns(alloc)) {
-        Ok(command) => match command.arg(flag(alloc, "mux")) {
-            Ok(command) => command.arg(flag(alloc, "bridge")),
-            Err(error) => Err(error),
-        },
-        Err(error) => Err(error),
-    }
+    Command::new(alloc, "relay")
+        .arg(required(option(alloc, "turns")))?
+        .arg(flag(alloc, "mux"))?
+        .arg(flag(alloc, "bridge"))
 }
 
 fn demo<'a>(alloc: Global) -> Result<Command<'a>, AllocError>
     ensures shape { IfOk result (λ c. app_of c ≡ grammar.demo) }
     ensures local { IfOk result (λ c. (out-Command c).has_globals ≡ false) }
 {
-    match with_workers(alloc, "demo") {
-        Ok(command) => match command.arg(calls(alloc)) {
-            Ok(command) => command.arg(start(alloc)),
-            Err(error) => Err(error),
-        },
-        Err(error) => Err(error),
-    }
-}
-
-/// The words don't begin with the program's name, and a command is required.
-fn without_program<'a>(command: Command<'a>) -> Command<'a>
-    ensures { app_of result ≡ grammar.without_program (app_of command.entry) }
-{
-    command.no_binary_name(true).subcommand_required(true)
+    with_workers(alloc, "demo")?
+        .arg(required(Arg::new(alloc, "calls")))?
+        .arg(required(Arg::new(alloc, "start")))
 }
 
 /// A command line with `replay` alone.
 fn with_replay<'a>(alloc: Global) -> Result<Command<'a>, AllocError>
     ensures { IfOk result (λ c. app_of c ≡ with_subcommand (new_app (codes "srtpgw")) grammar.replay.top) }
 {
-    match replay(alloc) {
-        Ok(replay) => Command::new(alloc, "srtpgw").subcommand(replay),
-        Err(error) => Err(error),
-    }
+    let replay = replay(alloc)?;
+    Command::new(alloc, "srtpgw").subcommand(replay)
 }
 
 /// The same with `relay`, too.
 fn with_relay<'a>(alloc: Global) -> Result<Command<'a>, AllocError>
     ensures { IfOk result (λ c. app_of c ≡ with_subcommand (with_subcommand (new_app (codes "srtpgw")) grammar.replay.top) grammar.relay.top) }
 {
-    match with_replay(alloc) {
-        Ok(command) => match relay(alloc) {
-            Ok(relay) => command.subcommand(relay),
-            Err(error) => {
-                drop(command);
-                Err(error)
-            }
-        },
-        Err(error) => Err(error),
-    }
+    let relay = relay(alloc)?;
+    with_replay(alloc)?.subcommand(relay)
 }
 
 /// A command line with the commands that have options.
 fn with_options<'a>(alloc: Global) -> Result<Command<'a>, AllocError>
     ensures { IfOk result (λ c. app_of c ≡ grammar.with_options) }
 {
-    match with_relay(alloc) {
-        Ok(command) => match demo(alloc) {
-            Ok(demo) => command.subcommand(demo),
-            Err(error) => {
-                drop(command);
-                Err(error)
-            }
-        },
-        Err(error) => Err(error),
-    }
+    let demo = demo(alloc)?;
+    with_relay(alloc)?.subcommand(demo)
 }
 
 /// The same with the commands that have none, too.
 fn with_all<'a>(alloc: Global) -> Result<Command<'a>, AllocError>
     ensures { IfOk result (λ c. app_of c ≡ grammar.with_all) }
 {
-    match with_options(alloc) {
-        Ok(command) => match command.subcommand(Command::new(alloc, "migrate")) {
-            Ok(command) => match command.subcommand(Command::new(alloc, "capture")) {
-                Ok(command) => command.subcommand(Command::new(alloc, "bridge")),
-                Err(error) => Err(error),
-            },
-            Err(error) => Err(error),
-        },
-        Err(error) => Err(error),
-    }
+    with_options(alloc)?
+        .subcommand(Command::new(alloc, "migrate"))?
+        .subcommand(Command::new(alloc, "capture"))?
+        .subcommand(Command::new(alloc, "bridge"))
 }
 
-/// The whole command line.
+/// The whole command line: the words don't begin with the program's name, and a command is required.
 pub(crate) fn command_line<'a>(alloc: Global) -> Result<Command<'a>, AllocError>
     ensures { IfOk result (λ c. app_of c ≡ grammar.srtpgw) }
 {
-    match with_all(alloc) {
-        Ok(command) => Ok(without_program(command)),
-        Err(error) => Err(error),
-    }
+    let command = with_all(alloc)?;
+    Ok(command.no_binary_name(true).subcommand_required(true))
 }
