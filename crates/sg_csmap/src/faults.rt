@@ -7,7 +7,7 @@ use sg_base::{CsFault, NoMemory};
 use std::alloc::{AllocError, AllocFailed};
 
 /// Why a bundle's crypto sessions don't serve the media, or out of memory.
-#[derive(Clone, Copy, Debug, PartialEq, Eq)]
+#[derive(Clone, Copy)]
 pub enum CsError {
     Cs(CsFault),
     NoMemory,

@@ -10,7 +10,7 @@ use sg_base::{Octets, Suite};
 use sg_mikey::Policy;
 
 // How streams are protected: the suite, and whether RTP and RTCP are sent unencrypted.
-#[derive(Clone, Copy, Debug, PartialEq, Eq)]
+#[derive(Clone, Copy, PartialEq, Eq)]
 pub struct Protection {
     pub suite: Suite,
     pub plain_rtp: bool,

@@ -5,7 +5,7 @@ ghost use Rattle.sg_mikey.specs.declared.chain.Stage.TheVariants.{Between};
 ghost use Rattle.sg_mikey.specs.Chain.{stage_after, is_over};
 
 // How far a chain has come.
-#[derive(Clone, Copy, Debug, PartialEq, Eq)]
+#[derive(Clone, Copy, PartialEq, Eq)]
 pub enum Stage {
     BeforeTime,
     BeforeRandom,

@@ -8,21 +8,21 @@ use std::alloc::{AllocError, AllocFailed};
 
 /// Why a message isn't read: its first fault, with the offset of the first octet of the field that
 /// shows it, or out of memory.
-#[derive(Clone, Copy, Debug, PartialEq, Eq)]
+#[derive(Clone, Copy, PartialEq, Eq)]
 pub enum ReadMikeyFault {
     Mikey { offset: u32, fault: MikeyFault },
     NoMemory,
 }
 
 // A fault, and how many octets were left where it shows.
-#[derive(Clone, Copy, Debug, PartialEq, Eq)]
+#[derive(Clone, Copy, PartialEq, Eq)]
 pub struct Stop {
     pub left: usize,
     pub fault: MikeyFault,
 }
 
 // Why a reader of a field ended.
-#[derive(Clone, Copy, Debug, PartialEq, Eq)]
+#[derive(Clone, Copy, PartialEq, Eq)]
 pub enum Halt {
     NoMemory,
     At(Stop),

@@ -4,7 +4,7 @@ use crate::{Items, Payload};
 use sg_base::{Mki, Octets};
 
 /// A crypto session of SRTP in the map of the common header (RFC 3830, 6.1.1).
-#[derive(Clone, Copy, Debug, PartialEq, Eq)]
+#[derive(Clone, Copy, PartialEq, Eq)]
 pub struct CsEntry {
     pub policy: u8,
     pub ssrc: u32,
@@ -25,7 +25,7 @@ pub struct Message {
 }
 
 // The common header up to its map (RFC 3830, 6.1).
-#[derive(Clone, Copy, Debug, PartialEq, Eq)]
+#[derive(Clone, Copy, PartialEq, Eq)]
 pub struct Header {
     pub kind: u8,
     pub next: u8,

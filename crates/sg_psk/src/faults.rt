@@ -7,7 +7,7 @@ use sg_base::{NoMemory, PskFault};
 use std::alloc::{AllocError, AllocFailed};
 
 /// Why a message is refused, or out of memory.
-#[derive(Clone, Copy, Debug, PartialEq, Eq)]
+#[derive(Clone, Copy)]
 pub enum PskError {
     Psk(PskFault),
     NoMemory,

@@ -4,7 +4,7 @@
 /// joined or not, to show so many calls that begin with the words of a start, with so many workers, to write a script of
 /// version 1 as one of version 2, to play a script and the capture behind it, or to play a script whose calls may be
 /// joined. In a replay and a relay RTP and RTCP may share a port (RFC 5761) where `mux` is set.
-#[derive(Clone, Copy, Debug, PartialEq, Eq)]
+#[derive(Clone, Copy, PartialEq, Eq)]
 pub enum Command {
     Replay {
         workers: usize,
@@ -28,7 +28,7 @@ pub enum Command {
 }
 
 /// Why no command was read.
-#[derive(Clone, Copy, Debug, PartialEq, Eq)]
+#[derive(Clone, Copy, PartialEq, Eq)]
 pub enum CommandFault {
     /// The words are no command.
     Usage,
