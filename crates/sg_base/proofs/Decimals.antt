@@ -54,9 +54,8 @@ pub zero_alone : (most : ℕ) (t : List ℕ) → most < 10 ^ 64 → length t ≡
 zero_alone most t fits one zero = sym (ap (number_at most) (alone t one zero ∙ sym (decimal_digit 0 (omega arith))) ∙ number_again most 0 (omega arith) fits)
   where
     alone : (t : List ℕ) → length t ≡ 1 → slice_index t 0 ≡ 48 → t ≡ 48 ∷ []
-    alone [] one zero = absurd (omega arith)
     alone (d ∷ []) one zero = ap (λ (x : ℕ). x ∷ []) zero
-    alone (d ∷ e ∷ t) one zero = absurd (omega arith)
+    alone t one zero = absurd (omega arith)
 
 -- no number is spelled by nothing
 pub not_empty : (most : ℕ) (t : List ℕ) → most < 10 ^ 64 → length t ≡ 0 → number_at most t ≡ None

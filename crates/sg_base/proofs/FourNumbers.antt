@@ -22,12 +22,8 @@ decimal_lacks c n small other =
     (λ n ds le so_far. lacks_append c ds ((48 + n % 10) ∷ []) so_far (ne_eqb (48 + n % 10) c (apart (n % 10) (omega arith)), tt)) n small
 
 four_parts : (l : List ℕ) → length l ≡ 4 → l ≡ slice_index l 0 ∷ slice_index l 1 ∷ slice_index l 2 ∷ slice_index l 3 ∷ []
-four_parts [] e = absurd (omega arith)
-four_parts (a ∷ []) e = absurd (omega arith)
-four_parts (a ∷ b ∷ []) e = absurd (omega arith)
-four_parts (a ∷ b ∷ c ∷ []) e = absurd (omega arith)
 four_parts (a ∷ b ∷ c ∷ d ∷ []) e = refl
-four_parts (a ∷ b ∷ c ∷ d ∷ x ∷ l) e = absurd (omega arith)
+four_parts l e = absurd (omega arith)
 
 four_small : (a b c d : ℕ) → a ≤ 255 → b ≤ 255 → c ≤ 255 → d ≤ 255 → (i : ℕ) → slice_index (a ∷ b ∷ c ∷ d ∷ []) i ≤ 255
 four_small a b c d p q r s zero = p

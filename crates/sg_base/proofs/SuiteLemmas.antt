@@ -6,7 +6,7 @@ use Rattle.std.specs.Str.{bytes_eq}
 use Rattle.std.proofs.lemmas.Bool.{and_parts, not-true}
 use Rattle.std.proofs.lemmas.Slice.Eq.{bytes_eq-Decides}
 use Rattle.sg_base.specs.declared.suites.Suite.{Suite}
-use Rattle.sg_base.specs.declared.suites.Suite.TheVariants.{Raw80, Cm128Tag80, Cm128Tag32, Cm192Tag80, Cm192Tag32, Cm256Tag80, Cm256Tag32}
+use Rattle.sg_base.specs.declared.suites.Suite.TheVariants.{Raw80}
 use Rattle.sg_base.specs.Fields.{Lacks}
 use Rattle.sg_base.specs.SuiteNames.{suite_name, all_suites, suite_at}
 use Rattle.sg_base.specs.Suites.{key_len_of, salt_len_of}
@@ -29,12 +29,7 @@ lacks_test c (x ∷ t) e = let p = and_parts (not (eqb x c)) (list_all (λ x. no
 pub suite_again : (s : Suite) → suite_at (suite_name s) ≡ Some s
 unfolding suite_at suite_name
 suite_again Raw80 = refl
-suite_again Cm128Tag80 = refl
-suite_again Cm128Tag32 = refl
-suite_again Cm192Tag80 = refl
-suite_again Cm192Tag32 = refl
-suite_again Cm256Tag80 = refl
-suite_again Cm256Tag32 = refl
+suite_again other = refl
 
 pub suite_takes : (t : List ℕ) (s : Suite) → suite_at t ≡ Some s → t ≡ suite_name s
 unfolding suite_at
@@ -43,29 +38,14 @@ suite_takes t s e = (bytes_eq-Decides t (suite_name s)).0 (find_passes (λ s. by
 pub suite_lacks_colon : (s : Suite) → Lacks 58 (suite_name s)
 unfolding suite_name
 suite_lacks_colon Raw80 = lacks_test 58 (suite_name Raw80) refl
-suite_lacks_colon Cm128Tag80 = lacks_test 58 (suite_name Cm128Tag80) refl
-suite_lacks_colon Cm128Tag32 = lacks_test 58 (suite_name Cm128Tag32) refl
-suite_lacks_colon Cm192Tag80 = lacks_test 58 (suite_name Cm192Tag80) refl
-suite_lacks_colon Cm192Tag32 = lacks_test 58 (suite_name Cm192Tag32) refl
-suite_lacks_colon Cm256Tag80 = lacks_test 58 (suite_name Cm256Tag80) refl
-suite_lacks_colon Cm256Tag32 = lacks_test 58 (suite_name Cm256Tag32) refl
+suite_lacks_colon other = lacks_test 58 (suite_name other) refl
 
 pub suite_lacks_space : (s : Suite) → Lacks 32 (suite_name s)
 unfolding suite_name
 suite_lacks_space Raw80 = lacks_test 32 (suite_name Raw80) refl
-suite_lacks_space Cm128Tag80 = lacks_test 32 (suite_name Cm128Tag80) refl
-suite_lacks_space Cm128Tag32 = lacks_test 32 (suite_name Cm128Tag32) refl
-suite_lacks_space Cm192Tag80 = lacks_test 32 (suite_name Cm192Tag80) refl
-suite_lacks_space Cm192Tag32 = lacks_test 32 (suite_name Cm192Tag32) refl
-suite_lacks_space Cm256Tag80 = lacks_test 32 (suite_name Cm256Tag80) refl
-suite_lacks_space Cm256Tag32 = lacks_test 32 (suite_name Cm256Tag32) refl
+suite_lacks_space other = lacks_test 32 (suite_name other) refl
 
 -- a key and its salt have 46 octets at most
 pub sizes : (s : Suite) → key_len_of s + salt_len_of s ≤ 46
 sizes Raw80 = omega arith
-sizes Cm128Tag80 = omega arith
-sizes Cm128Tag32 = omega arith
-sizes Cm192Tag80 = omega arith
-sizes Cm192Tag32 = omega arith
-sizes Cm256Tag80 = omega arith
-sizes Cm256Tag32 = omega arith
+sizes other = omega arith

@@ -8,7 +8,7 @@ ghost use Rattle.sg_base.specs.Faults.{drop_cause_number, psk_fault_number, refu
 use std::alloc::{AllocError, AllocFailed};
 
 /// Out of memory.
-#[derive(Clone, Copy, Debug, PartialEq, Eq)]
+#[derive(Clone, Copy, Debug)]
 pub struct NoMemory;
 
 impl From<AllocError> for NoMemory {
@@ -28,7 +28,7 @@ impl<T: Drop> From<AllocFailed<T>> for NoMemory {
 pub struct Failed;
 
 /// Why octets have no packet head (RFC 3550, 5.1 and 6.1).
-#[derive(Clone, Copy, Debug, PartialEq, Eq)]
+#[derive(Clone, Copy, PartialEq, Eq)]
 pub enum HeadFault {
     Short = 1,
     Version = 2,
@@ -37,14 +37,14 @@ pub enum HeadFault {
 }
 
 /// Why a packet's number has no index (RFC 3711, 3.3.1).
-#[derive(Clone, Copy, Debug, PartialEq, Eq)]
+#[derive(Clone, Copy, PartialEq, Eq)]
 pub enum IndexFault {
     BeforeFirst = 1,
     IndexSpent = 2,
 }
 
 /// Why a line isn't one of a script.
-#[derive(Clone, Copy, Debug, PartialEq, Eq)]
+#[derive(Clone, Copy, PartialEq, Eq)]
 pub enum ScriptFault {
     Word = 1,
     Number = 2,
@@ -55,7 +55,7 @@ pub enum ScriptFault {
 }
 
 /// Why a text isn't a session description (RFC 4566).
-#[derive(Clone, Copy, Debug, PartialEq, Eq)]
+#[derive(Clone, Copy, PartialEq, Eq)]
 pub enum SdpFault {
     Order = 1,
     Form = 2,
@@ -65,7 +65,7 @@ pub enum SdpFault {
 }
 
 /// Why a value isn't a crypto attribute that can be used (RFC 4568).
-#[derive(Clone, Copy, Debug, PartialEq, Eq)]
+#[derive(Clone, Copy)]
 pub enum SdesFault {
     NoLine = 1,
     Tag = 2,
@@ -77,7 +77,7 @@ pub enum SdesFault {
 }
 
 /// Why octets aren't a MIKEY message (RFC 3830).
-#[derive(Clone, Copy, Debug, PartialEq, Eq)]
+#[derive(Clone, Copy, PartialEq, Eq)]
 pub enum MikeyFault {
     Cut = 1,
     Version = 2,
@@ -89,7 +89,7 @@ pub enum MikeyFault {
 }
 
 /// Why a datagram is dropped.
-#[derive(Clone, Copy, Debug, PartialEq, Eq)]
+#[derive(Clone, Copy, Debug)]
 pub enum DropCause {
     Short,
     Version,
@@ -140,7 +140,7 @@ impl DropCause {
 }
 
 /// Why a pre-shared-key exchange is refused (RFC 3830).
-#[derive(Clone, Copy, Debug, PartialEq, Eq)]
+#[derive(Clone, Copy)]
 pub enum PskFault {
     IdUnknown,
     BadMac,
@@ -153,7 +153,7 @@ pub enum PskFault {
 }
 
 /// Why a message's crypto sessions don't fit the media (RFC 3830, RFC 4567).
-#[derive(Clone, Copy, Debug, PartialEq, Eq)]
+#[derive(Clone, Copy)]
 pub enum CsFault {
     CsCount = 1,
     PolicyMissing = 2,
@@ -161,7 +161,7 @@ pub enum CsFault {
 }
 
 /// Why a signal is refused. A medium counts from 0, and 255 is the session level.
-#[derive(Clone, Copy, Debug, PartialEq, Eq)]
+#[derive(Clone, Copy)]
 pub enum Refusal {
     Sdp {
         line: u32,
@@ -205,7 +205,7 @@ pub enum Refusal {
 }
 
 /// Why a call that allocates gives no answer: it is refused, or it is out of memory.
-#[derive(Clone, Copy, Debug, PartialEq, Eq)]
+#[derive(Clone, Copy)]
 pub enum Fault {
     Refused(Refusal),
     NoMemory,

@@ -8,7 +8,7 @@ use arrayvec::ArrayVec;
 use std::marker::Model;
 
 /// A master key identifier, seen as its value and its length in octets. The length is 1 to 128, and the value fits it.
-#[derive(Clone, Copy, Debug, PartialEq, Eq)]
+#[derive(Clone, Copy)]
 pub struct Mki {
     value: u128,
     length: u8,

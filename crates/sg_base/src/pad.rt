@@ -9,7 +9,7 @@ use std::alloc::Global;
 use std::marker::Model;
 
 /// A datagram has more octets than a pad can hold.
-#[derive(Clone, Copy, Debug, PartialEq, Eq)]
+#[derive(Clone, Copy, PartialEq, Eq)]
 pub struct TooLong;
 
 /// One buffer of 4,352 octets, seen as its used octets. Only `make` allocates.

@@ -2,7 +2,7 @@
 
 /// Which synchronization sources a session admits (RFC 3711, 3.2): any, one alone, or the first that
 /// is opened or sealed, and then that one alone.
-#[derive(Clone, Copy, Debug, PartialEq, Eq)]
+#[derive(Clone, Copy)]
 pub enum Admit {
     Any,
     One(u32),

@@ -6,7 +6,7 @@ ghost use Rattle.sg_bridge.specs.Faults.{join_fault_number};
 use sg_base::CallId;
 
 /// Why two calls aren't joined, or why a call isn't parted.
-#[derive(Clone, Copy, Debug, PartialEq, Eq)]
+#[derive(Clone, Copy, PartialEq, Eq)]
 pub enum JoinFault {
     /// No call has this number.
     CallUnknown,

@@ -3,7 +3,7 @@
 use sg_base::{Address, DropCause, Pad};
 
 /// How a datagram ends.
-#[derive(Clone, Copy, Debug, PartialEq, Eq)]
+#[derive(Clone, Copy)]
 pub enum End {
     /// A packet is forwarded, from this port to this address.
     Out { port: u16, to: Address },

@@ -1,7 +1,7 @@
 //! Where a datagram comes from.
 
 /// Where a datagram comes from.
-#[derive(Clone, Copy, Debug, PartialEq, Eq)]
+#[derive(Clone, Copy, PartialEq, Eq)]
 pub enum Origin {
     /// The peer of a call.
     Peer,

@@ -1,7 +1,7 @@
 //! The numbers of a demonstration.
 
 /// What was counted in a demonstration.
-#[derive(Clone, Copy, Debug, PartialEq, Eq)]
+#[derive(Clone, Copy, PartialEq, Eq)]
 pub struct Summary {
     /// Calls that were made.
     pub calls: u64,

@@ -128,16 +128,13 @@ more : (version : ℕ) (w a b c : List ℕ) (fs : List (List ℕ)) → Keeps (mo
 more version w a b c [] = four version w a b c
 more version w a b c (d ∷ []) = five version w a b c d
 more version w a b c (d ∷ e ∷ []) = six w a b c d e
-more version w a b c (d ∷ e ∷ f ∷ []) = tt
 more version w a b c (d ∷ e ∷ f ∷ g ∷ []) = eight w a b c d e f g
-more version w a b c (d ∷ e ∷ f ∷ g ∷ h ∷ fs) = tt
+more version w a b c fs = tt
 
 pub said : (version : ℕ) (fs : List (List ℕ)) → Keeps (said_by version fs)
-said version [] = tt
-said version (w ∷ []) = tt
 said version (w ∷ a ∷ []) = two w a
-said version (w ∷ a ∷ b ∷ []) = tt
 said version (w ∷ a ∷ b ∷ c ∷ fs) = more version w a b c fs
+said version fs = tt
 
 pub kept : {A : Type 0} (r : Result A ScriptFault) (d : ScriptFault) → Keeps r → r ≡ Err d → IsFieldFault d
 kept (Ok x) d k e = absurd cc

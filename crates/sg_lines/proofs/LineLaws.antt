@@ -316,17 +316,14 @@ more_take : (version : ℕ) (w a b c : List ℕ) (more : List (List ℕ)) (l : L
 more_take version w a b c [] l e = four_take version w a b c l e
 more_take version w a b c (d ∷ []) l e = five_take version w a b c d l e
 more_take version w a b c (d ∷ f ∷ []) l e = six_take version w a b c d f l e
-more_take version w a b c (d ∷ f ∷ g ∷ []) l e = absurd (FieldLaws.err_ok Word l e)
 more_take version w a b c (d ∷ f ∷ g ∷ h ∷ []) l e = eight_take version w a b c d f g h l e
-more_take version w a b c (d ∷ f ∷ g ∷ h ∷ i ∷ more) l e = absurd (FieldLaws.err_ok Word l e)
+more_take version w a b c more l e = absurd (FieldLaws.err_ok Word l e)
 
 pub fields_take : (version : ℕ) (fs : List (List ℕ)) (l : Line) → said_by version fs ≡ Ok l → (fs ≡ line_fields l) × FitsBody version l
 unfolding Reads
-fields_take version [] l e = absurd (FieldLaws.err_ok Word l e)
-fields_take version (w ∷ []) l e = absurd (FieldLaws.err_ok Word l e)
 fields_take version (w ∷ a ∷ []) l e = two_take version w a l e
-fields_take version (w ∷ a ∷ b ∷ []) l e = absurd (FieldLaws.err_ok Word l e)
 fields_take version (w ∷ a ∷ b ∷ c ∷ more) l e = more_take version w a b c more l e
+fields_take version fs l e = absurd (FieldLaws.err_ok Word l e)
 
 body_fits : (version number : ℕ) (l : Line) → (number ≡ 1 → ⊥) → FitsBody version l → FitsLine version number l
 body_fits version number lines.Header other fits = absurd fits

@@ -80,13 +80,5 @@ all_fields fields octets whole most e =
 
 -- behind eight fields nothing is told apart
 pub first_nine : (version : ℕ) (fs : List (List ℕ)) → said_by version (take 9 fs) ≡ said_by version fs
-first_nine version [] = refl
-first_nine version (a ∷ []) = refl
-first_nine version (a ∷ b ∷ []) = refl
-first_nine version (a ∷ b ∷ c ∷ []) = refl
-first_nine version (a ∷ b ∷ c ∷ d ∷ []) = refl
-first_nine version (a ∷ b ∷ c ∷ d ∷ e ∷ []) = refl
-first_nine version (a ∷ b ∷ c ∷ d ∷ e ∷ f ∷ []) = refl
-first_nine version (a ∷ b ∷ c ∷ d ∷ e ∷ f ∷ g ∷ []) = refl
-first_nine version (a ∷ b ∷ c ∷ d ∷ e ∷ f ∷ g ∷ h ∷ []) = refl
 first_nine version (a ∷ b ∷ c ∷ d ∷ e ∷ f ∷ g ∷ h ∷ i ∷ rest) = refl
+first_nine version fs = refl

@@ -7,7 +7,7 @@ use sg_base::ScriptFault;
 use std::alloc::{AllocError, AllocFailed};
 
 /// The first fault of a line, or out of memory.
-#[derive(Clone, Copy, Debug, PartialEq, Eq)]
+#[derive(Clone, Copy)]
 pub enum ReadLineFault {
     Script(ScriptFault),
     NoMemory,

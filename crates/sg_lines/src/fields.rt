@@ -1,7 +1,7 @@
 //! The fields of script lines, of which some are those of outcome lines too. A reader answers the first
 //! fault of its field.
 
-ghost use Rattle.std.specs.Prelude.{◌≡◌, ◌≤◌, length, IfOk};
+ghost use Rattle.std.specs.Prelude.{◌≡◌, ◌≤◌, bytes_eq, length, IfOk};
 ghost use Rattle.std.specs.List.{list_all};
 ghost use Rattle.sg_base.specs.Identities.{is_printing};
 ghost use Rattle.sg_lines.specs.Fields.{Gives, address_from, call_from, hex_from, identity_from, key_from, noise_from, number_from, octets_from, port_from, rollover_from, window_from};
@@ -12,6 +12,13 @@ use sg_base::{
     WINDOW_MOST, cut, read_address, read_number, read_octets, read_suite,
 };
 use std::alloc::Global;
+
+/// Whether the text is the word.
+pub(crate) fn is(text: &[u8], word: &[u8]) -> bool
+    ensures { result ≡ bytes_eq text.now word.now }
+{
+    text == word
+}
 
 /// A number up to the most, without a leading zero.
 pub fn number(most: u128, text: &[u8]) -> Result<u128, ScriptFault>
@@ -50,7 +57,7 @@ pub fn address(text: &[u8]) -> Result<Address, ScriptFault>
 pub fn hex_octets(alloc: Global, text: &[u8]) -> Result<Octets, ReadLineFault>
     ensures { Gives result (hex_from text.now) }
 {
-    if text == b"-".as_slice() {
+    if is(text, b"-") {
         return Ok(Octets::from_vec(Vec::new(alloc)));
     }
     if text.is_empty() {
@@ -110,7 +117,7 @@ pub(crate) fn window(text: &[u8]) -> Result<u16, ScriptFault>
 pub(crate) fn noise(alloc: Global, text: &[u8]) -> Result<Option<Noise304>, ReadLineFault>
     ensures { Gives result (noise_from text.now) }
 {
-    if text == b"-".as_slice() {
+    if is(text, b"-") {
         return Ok(None);
     }
     let octets = octets(alloc, NOISE, NOISE, text)?;

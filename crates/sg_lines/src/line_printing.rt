@@ -63,10 +63,9 @@ fn key_of(alloc: Global, key: &MasterKey) -> Result<Vec<u8>, NoMemory>
 {
     let mut octets = Vec::from_slice(alloc, key.key())?;
     octets.extend_from_slice(key.salt())?;
-    let digits = hex_of(alloc, &octets)?;
     let mut text = Vec::from_slice(alloc, key.suite().name())?;
     text.extend_from_slice(b":")?;
-    text.extend_from_slice(&digits)?;
+    push_hex(&mut text, &octets)?;
     Ok(text)
 }
 

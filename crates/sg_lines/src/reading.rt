@@ -9,7 +9,9 @@ ghost use Rattle.sg_lines.specs.declared.lines.Line.TheVariants as lines;
 ghost use Rattle.sg_lines.specs.LineOf.{answer_from, bye_from, datagram_at_from, datagram_from, eight_fields, fields_of, five_fields, four_fields, header_from, line_of, manual_from, more_fields, offer_mikey_from, offer_sdes_from, offer_secure_from, psk_from, reject_from, said_by, six_fields, tick_from, two_fields};
 
 use crate::faults::WORD;
-use crate::fields::{address, call, identity, key, noise, number, octets, port, rollover, window};
+use crate::fields::{
+    address, call, identity, is, key, noise, number, octets, port, rollover, window,
+};
 use crate::{KeptSignal, Line, ReadLineFault, Signal};
 use arrayvec::ArrayVec;
 use memchr::memchr;
@@ -212,13 +214,13 @@ fn manual(
 fn of_two(alloc: Global, word: &[u8], a: &[u8]) -> Result<Line, ReadLineFault>
     ensures { Gives result (two_fields word.now a.now) }
 {
-    if word == b"tick".as_slice() {
+    if is(word, b"tick") {
         return tick(alloc, a);
     }
-    if word == b"reject".as_slice() {
+    if is(word, b"reject") {
         return reject(alloc, a);
     }
-    if word == b"bye".as_slice() {
+    if is(word, b"bye") {
         return bye(alloc, a);
     }
     Err(WORD)
@@ -235,16 +237,16 @@ fn of_four(
 ) -> Result<Line, ReadLineFault>
     ensures { Gives result (four_fields version word.now a.now b.now c.now) }
 {
-    if word == b"in".as_slice() && version != 2 {
+    if is(word, b"in") && version != 2 {
         return datagram(alloc, a, b, c);
     }
-    if word == b"psk".as_slice() {
+    if is(word, b"psk") {
         return psk(alloc, a, b, c);
     }
-    if word == b"offer-secure".as_slice() {
+    if is(word, b"offer-secure") {
         return offer_secure(alloc, a, b, c);
     }
-    if word == b"answer".as_slice() {
+    if is(word, b"answer") {
         return answer(alloc, a, b, c);
     }
     Err(WORD)
@@ -262,10 +264,10 @@ fn of_five(
 ) -> Result<Line, ReadLineFault>
     ensures { Gives result (five_fields version word.now a.now b.now c.now d.now) }
 {
-    if word == b"in".as_slice() && version == 2 {
+    if is(word, b"in") && version == 2 {
         return datagram_at(alloc, a, b, c, d);
     }
-    if word == b"offer-plain".as_slice() && b == b"sdes".as_slice() {
+    if is(word, b"offer-plain") && is(b, b"sdes") {
         return offer_sdes(alloc, a, c, d);
     }
     Err(WORD)
@@ -283,7 +285,7 @@ fn of_six(
 ) -> Result<Line, ReadLineFault>
     ensures { Gives result (six_fields word.now a.now b.now c.now d.now e.now) }
 {
-    if word == b"offer-plain".as_slice() && b == b"mikey".as_slice() {
+    if is(word, b"offer-plain") && is(b, b"mikey") {
         return offer_mikey(alloc, a, c, d, e);
     }
     Err(WORD)
@@ -301,7 +303,7 @@ fn of_eight(
 ) -> Result<Line, ReadLineFault>
     ensures { Gives result (eight_fields word.now name.now addresses.entry.0.now addresses.entry.1.now roc.now width.now keys.entry.0.now keys.entry.1.now) }
 {
-    if word == b"manual".as_slice() {
+    if is(word, b"manual") {
         return manual(alloc, name, addresses, roc, width, keys);
     }
     Err(WORD)
@@ -374,10 +376,10 @@ fn body_line(alloc: Global, version: u8, body: &[u8]) -> Result<Line, ReadLineFa
 pub(crate) fn header(body: &[u8]) -> Result<Line, ScriptFault>
     ensures { result ≡ header_from body.now }
 {
-    if body == b"srtpgw 1".as_slice() {
+    if is(body, b"srtpgw 1") {
         return Ok(Line::Header);
     }
-    if body == b"srtpgw 2".as_slice() {
+    if is(body, b"srtpgw 2") {
         return Ok(Line::HeaderTwo);
     }
     Err(ScriptFault::Version)

@@ -13,7 +13,7 @@ use crate::{OpenSide, Opened};
 use sg_base::{DropCause, Pad};
 
 /// Which of two generations opened a datagram.
-#[derive(Clone, Copy, PartialEq, Eq, Debug)]
+#[derive(Clone, Copy, PartialEq, Eq)]
 pub enum Which {
     Current,
     Earlier,

@@ -121,12 +121,10 @@ drop_cause_again other fits = rw (NameLaws.plain_drop_cause_again other refl) re
 
 pub drop_cause_takes : (fs : List (List ℕ)) (x : DropCause) → drop_cause_from fs ≡ Ok x → (fs ≡ drop_cause_fields x) × FitsDropCause x
 unfolding key_spent_from
-drop_cause_takes [] x e = absurd (FieldLaws.err_ok script.Word x e)
 drop_cause_takes (name ∷ []) x e =
     let p = NameLaws.plain_drop_cause_takes name x (FieldLaws.or_fault_ok script.Word (plain_drop_cause_at name) x e) in
     let f = plain_drop_cause_fields x p.1 in
     (one_same name (drop_cause_name x) p.0 ∙ sym f.0, f.1)
-drop_cause_takes (name ∷ a ∷ []) x e = absurd (FieldLaws.err_ok script.Word x e)
 drop_cause_takes (name ∷ a ∷ b ∷ []) x e =
     elim (chosen (bytes_eq name (codes "KeySpent")) _ _ (Ok x) e) [
       | inl p ↦
@@ -138,7 +136,7 @@ drop_cause_takes (name ∷ a ∷ b ∷ []) x e =
           (three_same name a b _ _ _ (is_name name _ p.0) na.0 cb.0, (na.1, cb.1))
       | inr p ↦ absurd (FieldLaws.err_ok script.Word x p.1)
     ]
-drop_cause_takes (name ∷ a ∷ b ∷ c ∷ fs) x e = absurd (FieldLaws.err_ok script.Word x e)
+drop_cause_takes fs x e = absurd (FieldLaws.err_ok script.Word x e)
 
 pub dense_drop_cause : (x : DropCause) → FitsDropCause x → AreDense (drop_cause_fields x)
 dense_drop_cause (drops.KeySpent number count) fits =
@@ -197,14 +195,8 @@ unfolding one_number_from key_mgmt_from key_reused_from tick_back_from one_fault
 refusal_again (refusals.Sdp line fault) fits = rw (word_again line fits, NameLaws.sdp_fault_again fault) refl
 refusal_again (refusals.Sdes medium fault) fits = rw (byte_again medium fits, NameLaws.sdes_fault_again fault) refl
 refusal_again (refusals.Mikey medium offset fault) fits = rw (byte_again medium fits.0, word_again offset fits.1, NameLaws.mikey_fault_again fault) refl
-refusal_again (refusals.Psk medium psk.IdUnknown) fits = rw (byte_again medium fits.0, NameLaws.plain_psk_fault_again psk.IdUnknown refl) refl
-refusal_again (refusals.Psk medium psk.BadMac) fits = rw (byte_again medium fits.0, NameLaws.plain_psk_fault_again psk.BadMac refl) refl
 refusal_again (refusals.Psk medium (psk.Skew stamp now)) fits = rw (byte_again medium fits.0, skew_again stamp now fits.1) refl
-refusal_again (refusals.Psk medium psk.Repeated) fits = rw (byte_again medium fits.0, NameLaws.plain_psk_fault_again psk.Repeated refl) refl
-refusal_again (refusals.Psk medium psk.Algorithm) fits = rw (byte_again medium fits.0, NameLaws.plain_psk_fault_again psk.Algorithm refl) refl
-refusal_again (refusals.Psk medium psk.KeyType) fits = rw (byte_again medium fits.0, NameLaws.plain_psk_fault_again psk.KeyType refl) refl
-refusal_again (refusals.Psk medium psk.CacheFull) fits = rw (byte_again medium fits.0, NameLaws.plain_psk_fault_again psk.CacheFull refl) refl
-refusal_again (refusals.Psk medium psk.OtherSession) fits = rw (byte_again medium fits.0, NameLaws.plain_psk_fault_again psk.OtherSession refl) refl
+refusal_again (refusals.Psk medium fault) fits = rw (byte_again medium fits.0, NameLaws.plain_psk_fault_again fault refl) refl
 refusal_again (refusals.Cs medium fault) fits = rw (byte_again medium fits, NameLaws.cs_fault_again fault) refl
 refusal_again (refusals.KeyMgmt medium) fits = rw (byte_again medium fits) refl
 refusal_again (refusals.KeyReused number) fits = rw (word_again number fits) refl
@@ -335,7 +327,6 @@ one_fault_takes name a b x e =
 
 pub refusal_takes : (fs : List (List ℕ)) (x : Refusal) → refusal_from fs ≡ Ok x → (fs ≡ refusal_fields x) × FitsRefusal x
 unfolding Reads two_numbers_from fault_with_numbers_from
-refusal_takes [] x e = absurd (FieldLaws.err_ok script.Word x e)
 refusal_takes (name ∷ []) x e =
     let p = NameLaws.plain_refusal_takes name x (FieldLaws.or_fault_ok script.Word (plain_refusal_at name) x e) in
     let f = plain_refusal_fields x p.1 in
@@ -352,7 +343,7 @@ refusal_takes (name ∷ a ∷ b ∷ c ∷ d ∷ []) x e =
       | inl p ↦ psk_skew_takes name a b c d x (is_name name _ p.0) p.1
       | inr p ↦ absurd (FieldLaws.err_ok script.Word x p.1)
     ]
-refusal_takes (name ∷ a ∷ b ∷ c ∷ d ∷ f ∷ fs) x e = absurd (FieldLaws.err_ok script.Word x e)
+refusal_takes fs x e = absurd (FieldLaws.err_ok script.Word x e)
 
 pub small_dense : (n : ℕ) → n < 2 ^ 64 → IsDense (decimal n)
 small_dense n fits = dense_decimal n (omega (arith, fits))

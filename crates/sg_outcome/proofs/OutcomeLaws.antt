@@ -263,38 +263,28 @@ unsent_takes w a b o word e =
     subst (Reads (w ∷ a ∷ b ∷ [])) (FieldLaws.ok_is (Unsent x.0 y.0) o y.2) (three_same w a b _ _ _ word p.0 q.0, (p.1, q.1))
 
 made_more : (w a : List ℕ) (fs : List (List ℕ)) (o : Outcome) → w ≡ codes "made" → made_by a fs ≡ Ok o → Reads (w ∷ a ∷ fs) o
-made_more w a [] o word e = absurd (FieldLaws.err_ok script.Word o e)
-made_more w a (b ∷ []) o word e = absurd (FieldLaws.err_ok script.Word o e)
 made_more w a (b ∷ c ∷ []) o word e = made_takes w a b c o word e
-made_more w a (b ∷ c ∷ d ∷ fs) o word e = absurd (FieldLaws.err_ok script.Word o e)
+made_more w a fs o word e = absurd (FieldLaws.err_ok script.Word o e)
 
 live_more : (w a : List ℕ) (fs : List (List ℕ)) (o : Outcome) → w ≡ codes "live" → live_by a fs ≡ Ok o → Reads (w ∷ a ∷ fs) o
 live_more w a [] o word e = live_takes w a o word e
 live_more w a (b ∷ fs) o word e = absurd (FieldLaws.err_ok script.Word o e)
 
 described_more : (w a : List ℕ) (fs : List (List ℕ)) (o : Outcome) → w ≡ codes "sdp" → described_by a fs ≡ Ok o → Reads (w ∷ a ∷ fs) o
-described_more w a [] o word e = absurd (FieldLaws.err_ok script.Word o e)
-described_more w a (b ∷ []) o word e = absurd (FieldLaws.err_ok script.Word o e)
 described_more w a (b ∷ c ∷ []) o word e = described_takes w a b c o word e
-described_more w a (b ∷ c ∷ d ∷ fs) o word e = absurd (FieldLaws.err_ok script.Word o e)
+described_more w a fs o word e = absurd (FieldLaws.err_ok script.Word o e)
 
 ended_more : (w a : List ℕ) (fs : List (List ℕ)) (o : Outcome) → w ≡ codes "ended" → ended_by a fs ≡ Ok o → Reads (w ∷ a ∷ fs) o
-ended_more w a [] o word e = absurd (FieldLaws.err_ok script.Word o e)
-ended_more w a (b ∷ []) o word e = absurd (FieldLaws.err_ok script.Word o e)
-ended_more w a (b ∷ c ∷ []) o word e = absurd (FieldLaws.err_ok script.Word o e)
 ended_more w a (b ∷ c ∷ d ∷ []) o word e = ended_takes w a b c d o word e
-ended_more w a (b ∷ c ∷ d ∷ f ∷ fs) o word e = absurd (FieldLaws.err_ok script.Word o e)
+ended_more w a fs o word e = absurd (FieldLaws.err_ok script.Word o e)
 
 out_more : (w a : List ℕ) (fs : List (List ℕ)) (o : Outcome) → w ≡ codes "out" → out_by a fs ≡ Ok o → Reads (w ∷ a ∷ fs) o
-out_more w a [] o word e = absurd (FieldLaws.err_ok script.Word o e)
-out_more w a (b ∷ []) o word e = absurd (FieldLaws.err_ok script.Word o e)
 out_more w a (b ∷ c ∷ []) o word e = out_takes w a b c o word e
-out_more w a (b ∷ c ∷ d ∷ fs) o word e = absurd (FieldLaws.err_ok script.Word o e)
+out_more w a fs o word e = absurd (FieldLaws.err_ok script.Word o e)
 
 unsent_more : (w a : List ℕ) (fs : List (List ℕ)) (o : Outcome) → w ≡ codes "unsent" → unsent_by a fs ≡ Ok o → Reads (w ∷ a ∷ fs) o
-unsent_more w a [] o word e = absurd (FieldLaws.err_ok script.Word o e)
 unsent_more w a (b ∷ []) o word e = unsent_takes w a b o word e
-unsent_more w a (b ∷ c ∷ fs) o word e = absurd (FieldLaws.err_ok script.Word o e)
+unsent_more w a fs o word e = absurd (FieldLaws.err_ok script.Word o e)
 
 by_word : (w a : List ℕ) (fs : List (List ℕ)) (o : Outcome) → outcome_by w a fs ≡ Ok o → Reads (w ∷ a ∷ fs) o
 unfolding outcome_by
@@ -326,9 +316,8 @@ by_word w a fs o e =
     ]
 
 outcome_in_takes : (fs : List (List ℕ)) (o : Outcome) → outcome_from fs ≡ Ok o → Reads fs o
-outcome_in_takes [] o e = absurd (FieldLaws.err_ok script.Word o e)
-outcome_in_takes (w ∷ []) o e = absurd (FieldLaws.err_ok script.Word o e)
 outcome_in_takes (w ∷ a ∷ fs) o e = by_word w a fs o e
+outcome_in_takes fs o e = absurd (FieldLaws.err_ok script.Word o e)
 
 pub outcome_takes : (t : List ℕ) (o : Outcome) → outcome_of t ≡ Ok o → (t ≡ outcome_line o) × FitsOutcome o × (length t ≤ 70000)
 unfolding outcome_of Reads
@@ -354,13 +343,5 @@ is_found t (Err e) given = tt
 -- behind eight fields nothing is told apart
 pub first_nine : (fs : List (List ℕ)) → outcome_from (take 9 fs) ≡ outcome_from fs
 unfolding outcome_by refused_from dropped_from
-first_nine [] = refl
-first_nine (w ∷ []) = refl
-first_nine (w ∷ a ∷ []) = refl
-first_nine (w ∷ a ∷ b ∷ []) = refl
-first_nine (w ∷ a ∷ b ∷ c ∷ []) = refl
-first_nine (w ∷ a ∷ b ∷ c ∷ d ∷ []) = refl
-first_nine (w ∷ a ∷ b ∷ c ∷ d ∷ e ∷ []) = refl
-first_nine (w ∷ a ∷ b ∷ c ∷ d ∷ e ∷ f ∷ []) = refl
-first_nine (w ∷ a ∷ b ∷ c ∷ d ∷ e ∷ f ∷ g ∷ []) = refl
 first_nine (w ∷ a ∷ b ∷ c ∷ d ∷ e ∷ f ∷ g ∷ h ∷ rest) = refl
+first_nine fs = refl

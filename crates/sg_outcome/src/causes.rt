@@ -1,6 +1,6 @@
 //! Causes in outcome lines, read from their fields.
 
-ghost use Rattle.std.specs.Prelude.{◌≡◌, map};
+ghost use Rattle.std.specs.Prelude.{◌≡◌, bytes_eq, map};
 ghost use Rattle.sg_outcome.specs.OutcomeOf.{cs_from, drop_cause_from, fault_with_numbers_from, key_mgmt_from, key_reused_from, key_spent_from, mikey_from, one_fault_from, one_number_from, psk_from, psk_skew_from, refusal_from, sdes_from, sdp_from, signed_at, skew_from, tick_back_from, two_numbers_from};
 
 use crate::outcome_names::{
@@ -14,6 +14,13 @@ const BYTE_MOST: u128 = 255;
 const WORD_MOST: u128 = 4294967295;
 
 const LONG_MOST: u128 = 18446744073709551615;
+
+/// Whether the text is the word.
+pub(crate) fn is(text: &[u8], word: &[u8]) -> bool
+    ensures { result ≡ bytes_eq text.now word.now }
+{
+    text == word
+}
 
 /// A number of 64 bits, with a minus below 0 and no other sign, and without a leading zero.
 #[tactic(auto, unfolding(crate::specs::OutcomeOf::signed_at))]
@@ -40,7 +47,7 @@ fn signed(text: &[u8]) -> Option<i64>
 fn key_spent(name: &[u8], a: &[u8], b: &[u8]) -> Result<DropCause, ScriptFault>
     ensures { result ≡ key_spent_from name.now a.now b.now }
 {
-    if name != b"KeySpent".as_slice() {
+    if !is(name, b"KeySpent") {
         return Err(ScriptFault::Word);
     }
     let spent = number(WORD_MOST, a)? as u32;
@@ -66,7 +73,7 @@ pub(crate) fn drop_cause(fields: &[&[u8]]) -> Result<DropCause, ScriptFault>
 fn skew(name: &[u8], a: &[u8], b: &[u8]) -> Result<PskFault, ScriptFault>
     ensures { result ≡ skew_from name.now a.now b.now }
 {
-    if name != b"Skew".as_slice() {
+    if !is(name, b"Skew") {
         return Err(ScriptFault::Word);
     }
     let stamp = signed(a).ok_or(ScriptFault::Number)?;
@@ -102,13 +109,13 @@ fn tick_back(a: &[u8]) -> Result<Refusal, ScriptFault>
 fn one_number(name: &[u8], a: &[u8]) -> Result<Refusal, ScriptFault>
     ensures { result ≡ one_number_from name.now a.now }
 {
-    if name == b"KeyMgmt".as_slice() {
+    if is(name, b"KeyMgmt") {
         return key_mgmt(a);
     }
-    if name == b"KeyReused".as_slice() {
+    if is(name, b"KeyReused") {
         return key_reused(a);
     }
-    if name == b"TickBack".as_slice() {
+    if is(name, b"TickBack") {
         return tick_back(a);
     }
     Err(ScriptFault::Word)
@@ -154,16 +161,16 @@ fn cs(a: &[u8], b: &[u8]) -> Result<Refusal, ScriptFault>
 fn one_fault(name: &[u8], a: &[u8], b: &[u8]) -> Result<Refusal, ScriptFault>
     ensures { result ≡ one_fault_from name.now a.now b.now }
 {
-    if name == b"Sdp".as_slice() {
+    if is(name, b"Sdp") {
         return sdp(a, b);
     }
-    if name == b"Sdes".as_slice() {
+    if is(name, b"Sdes") {
         return sdes(a, b);
     }
-    if name == b"Psk".as_slice() {
+    if is(name, b"Psk") {
         return psk(a, b);
     }
-    if name == b"Cs".as_slice() {
+    if is(name, b"Cs") {
         return cs(a, b);
     }
     Err(ScriptFault::Word)
@@ -187,7 +194,7 @@ fn mikey(a: &[u8], b: &[u8], c: &[u8]) -> Result<Refusal, ScriptFault>
 fn two_numbers(name: &[u8], a: &[u8], b: &[u8], c: &[u8]) -> Result<Refusal, ScriptFault>
     ensures { result ≡ two_numbers_from name.now a.now b.now c.now }
 {
-    if name == b"Mikey".as_slice() {
+    if is(name, b"Mikey") {
         return mikey(a, b, c);
     }
     Err(ScriptFault::Word)
@@ -212,7 +219,7 @@ fn fault_with_numbers(
 ) -> Result<Refusal, ScriptFault>
     ensures { result ≡ fault_with_numbers_from name.now a.now b.now c.now d.now }
 {
-    if name == b"Psk".as_slice() {
+    if is(name, b"Psk") {
         return psk_skew(a, b, c, d);
     }
     Err(ScriptFault::Word)

@@ -9,7 +9,7 @@ ghost use Rattle.sg_outcome.specs.declared.outcomes.Outcome.{Outcome};
 ghost use Rattle.sg_outcome.specs.OutcomeOf.{described_by, described_from, dropped_from, ended_by, ended_from, live_by, live_from, made_by, made_from, out_by, out_from, outcome_by, outcome_from, outcome_of, refused_from, some_call_from, unsent_by, unsent_from};
 
 use crate::Outcome;
-use crate::causes::{drop_cause, refusal};
+use crate::causes::{drop_cause, is, refusal};
 use crate::outcome_names::{side, why};
 use sg_base::{CallId, LINE_MOST, ScriptFault};
 use sg_lines::fields::{address, call, hex_octets, number, port};
@@ -50,7 +50,7 @@ fn described(alloc: Global, a: &[u8], b: &[u8], c: &[u8]) -> Result<Outcome, Rea
 fn some_call(text: &[u8]) -> Result<Option<CallId>, ScriptFault>
     ensures { result ≡ some_call_from text.now }
 {
-    if text == b"-".as_slice() {
+    if is(text, b"-") {
         return Ok(None);
     }
     let call = call(text)?;
@@ -183,28 +183,28 @@ fn outcome_of_word(
 ) -> Result<Outcome, ReadLineFault>
     ensures { Gives result (outcome_by word.now a.now (map (λ x. x.now) more.now)) }
 {
-    if word == b"made".as_slice() {
+    if is(word, b"made") {
         return of_line(made_of(a, more));
     }
-    if word == b"live".as_slice() {
+    if is(word, b"live") {
         return of_line(live_of(a, more));
     }
-    if word == b"sdp".as_slice() {
+    if is(word, b"sdp") {
         return described_of(alloc, a, more);
     }
-    if word == b"refused".as_slice() {
+    if is(word, b"refused") {
         return of_line(refused(a, more));
     }
-    if word == b"ended".as_slice() {
+    if is(word, b"ended") {
         return of_line(ended_of(a, more));
     }
-    if word == b"out".as_slice() {
+    if is(word, b"out") {
         return out_of(alloc, a, more);
     }
-    if word == b"drop".as_slice() {
+    if is(word, b"drop") {
         return of_line(dropped(a, more));
     }
-    if word == b"unsent".as_slice() {
+    if is(word, b"unsent") {
         return of_line(unsent_of(a, more));
     }
     Err(WORD)

@@ -3,7 +3,7 @@
 use sg_base::{Address, CallId, DropCause, Octets, Refusal, Side};
 
 /// Why a call has ended.
-#[derive(Clone, Copy, Debug, PartialEq, Eq)]
+#[derive(Clone, Copy)]
 pub enum Why {
     Bye,
     Rejected,

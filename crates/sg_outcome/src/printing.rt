@@ -70,10 +70,8 @@ fn push_drop_numbers(out: &mut Vec<u8>, cause: DropCause) -> Result<(), NoMemory
 {
     match cause {
         DropCause::KeySpent { number, count } => {
-            push(out, b" ")?;
-            push_number(out, number as u64)?;
-            push(out, b" ")?;
-            push_number(out, count)
+            push_word_number(out, b" ", number as u64)?;
+            push_word_number(out, b" ", count)
         }
         _ => Ok(()),
     }
@@ -124,8 +122,7 @@ fn push_skew(out: &mut Vec<u8>, stamp: i64, now: u64) -> Result<(), NoMemory>
 {
     push(out, b"Skew ")?;
     push_signed(out, stamp)?;
-    push(out, b" ")?;
-    push_number(out, now)
+    push_word_number(out, b" ", now)
 }
 
 fn push_psk_fault(out: &mut Vec<u8>, fault: PskFault) -> Result<(), NoMemory>
@@ -157,8 +154,7 @@ pub(crate) fn cs_fault_word(fault: CsFault) -> &'static [u8]
 fn push_fault(out: &mut Vec<u8>, word: &[u8], number: u64, fault: &[u8]) -> Result<(), NoMemory>
     ensures { OnOk result (out.new.items ≡ out.old.items ++ word.now ++ decimal number ++ codes " " ++ fault.now) }
 {
-    push(out, word)?;
-    push_number(out, number)?;
+    push_word_number(out, word, number)?;
     push(out, b" ")?;
     push(out, fault)
 }
@@ -171,10 +167,8 @@ fn push_mikey_fault(
 ) -> Result<(), NoMemory>
     ensures { OnOk result (out.new.items ≡ out.old.items ++ codes "Mikey " ++ decimal medium ++ codes " " ++ decimal offset ++ codes " " ++ mikey_fault_name fault) }
 {
-    push(out, b"Mikey ")?;
-    push_number(out, medium)?;
-    push(out, b" ")?;
-    push_number(out, offset)?;
+    push_word_number(out, b"Mikey ", medium)?;
+    push_word_number(out, b" ", offset)?;
     push(out, b" ")?;
     push(out, mikey_fault_word(fault))
 }
@@ -182,8 +176,7 @@ fn push_mikey_fault(
 fn push_psk(out: &mut Vec<u8>, medium: u64, fault: PskFault) -> Result<(), NoMemory>
     ensures { OnOk result (out.new.items ≡ out.old.items ++ codes "Psk " ++ decimal medium ++ codes " " ++ psk_fault_text fault) }
 {
-    push(out, b"Psk ")?;
-    push_number(out, medium)?;
+    push_word_number(out, b"Psk ", medium)?;
     push(out, b" ")?;
     push_psk_fault(out, fault)
 }
@@ -242,12 +235,9 @@ fn push_call(out: &mut Vec<u8>, call: Option<CallId>) -> Result<(), NoMemory>
 fn push_made(out: &mut Vec<u8>, call: CallId, slot: u8, media: u8) -> Result<(), NoMemory>
     ensures { OnOk result (out.new.items ≡ out.old.items ++ outcome_line (Made call slot media)) }
 {
-    push(out, b"made ")?;
-    push_number(out, call.0 as u64)?;
-    push(out, b" ")?;
-    push_number(out, slot as u64)?;
-    push(out, b" ")?;
-    push_number(out, media as u64)?;
+    push_word_number(out, b"made ", call.0 as u64)?;
+    push_word_number(out, b" ", slot as u64)?;
+    push_word_number(out, b" ", media as u64)?;
     push(out, b"\n")
 }
 
@@ -255,8 +245,7 @@ fn push_made(out: &mut Vec<u8>, call: CallId, slot: u8, media: u8) -> Result<(),
 fn push_live(out: &mut Vec<u8>, call: CallId) -> Result<(), NoMemory>
     ensures { OnOk result (out.new.items ≡ out.old.items ++ outcome_line (Live call)) }
 {
-    push(out, b"live ")?;
-    push_number(out, call.0 as u64)?;
+    push_word_number(out, b"live ", call.0 as u64)?;
     push(out, b"\n")
 }
 
@@ -264,8 +253,7 @@ fn push_live(out: &mut Vec<u8>, call: CallId) -> Result<(), NoMemory>
 fn push_sdp(out: &mut Vec<u8>, call: CallId, side: Side, text: &[u8]) -> Result<(), NoMemory>
     ensures { OnOk result (out.new.items ≡ out.old.items ++ outcome_line (Sdp call side text.now)) }
 {
-    push(out, b"sdp ")?;
-    push_number(out, call.0 as u64)?;
+    push_word_number(out, b"sdp ", call.0 as u64)?;
     push(out, b" ")?;
     push(out, side_word(side))?;
     push(out, b" ")?;
@@ -287,10 +275,8 @@ fn push_refused(out: &mut Vec<u8>, call: Option<CallId>, cause: Refusal) -> Resu
 fn push_slot(out: &mut Vec<u8>, slot: u8, media: u8) -> Result<(), NoMemory>
     ensures { OnOk result (out.new.items ≡ out.old.items ++ codes " " ++ decimal slot ++ codes " " ++ decimal media ++ codes " ") }
 {
-    push(out, b" ")?;
-    push_number(out, slot as u64)?;
-    push(out, b" ")?;
-    push_number(out, media as u64)?;
+    push_word_number(out, b" ", slot as u64)?;
+    push_word_number(out, b" ", media as u64)?;
     push(out, b" ")
 }
 
@@ -304,8 +290,7 @@ fn push_ended(
 ) -> Result<(), NoMemory>
     ensures { OnOk result (out.new.items ≡ out.old.items ++ outcome_line (Ended call slot media why)) }
 {
-    push(out, b"ended ")?;
-    push_number(out, call.0 as u64)?;
+    push_word_number(out, b"ended ", call.0 as u64)?;
     push_slot(out, slot, media)?;
     push(out, why_word(why))?;
     push(out, b"\n")
@@ -316,8 +301,7 @@ fn push_ended(
 pub fn push_out(out: &mut Vec<u8>, port: u16, to: &Address, octets: &[u8]) -> Result<(), NoMemory>
     ensures { OnOk result (out.new.items ≡ out.old.items ++ outcome_line (Out port to.now octets.now)) }
 {
-    push(out, b"out ")?;
-    push_number(out, port as u64)?;
+    push_word_number(out, b"out ", port as u64)?;
     push(out, b" ")?;
     push_address(out, to)?;
     push(out, b" ")?;
@@ -329,8 +313,7 @@ pub fn push_out(out: &mut Vec<u8>, port: u16, to: &Address, octets: &[u8]) -> Re
 fn push_dropped(out: &mut Vec<u8>, port: u16, cause: DropCause) -> Result<(), NoMemory>
     ensures { OnOk result (out.new.items ≡ out.old.items ++ outcome_line (Dropped port cause)) }
 {
-    push(out, b"drop ")?;
-    push_number(out, port as u64)?;
+    push_word_number(out, b"drop ", port as u64)?;
     push(out, b" ")?;
     push(out, drop_cause_word(cause))?;
     push_drop_numbers(out, cause)?;
@@ -341,8 +324,7 @@ fn push_dropped(out: &mut Vec<u8>, port: u16, cause: DropCause) -> Result<(), No
 fn push_unsent(out: &mut Vec<u8>, port: u16, to: &Address) -> Result<(), NoMemory>
     ensures { OnOk result (out.new.items ≡ out.old.items ++ outcome_line (Unsent port to.now)) }
 {
-    push(out, b"unsent ")?;
-    push_number(out, port as u64)?;
+    push_word_number(out, b"unsent ", port as u64)?;
     push(out, b" ")?;
     push_address(out, to)?;
     push(out, b"\n")

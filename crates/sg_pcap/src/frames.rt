@@ -11,7 +11,7 @@ use sg_base::Address;
 const ETHERNET: usize = 14;
 
 /// What a frame is to the gateway.
-#[derive(Clone, Copy, Debug, PartialEq, Eq)]
+#[derive(Clone, Copy, PartialEq, Eq)]
 pub enum Frame<'a> {
     /// It has no UDP datagram in an IPv4 packet.
     Passed,

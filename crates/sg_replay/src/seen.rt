@@ -10,7 +10,7 @@ use crate::row::Row;
 use std::marker::Model;
 
 /// How an index stands to the indices done before it.
-#[derive(Clone, Copy, Debug, PartialEq, Eq)]
+#[derive(Clone, Copy, PartialEq, Eq)]
 pub enum Freshness {
     /// It wasn't done, and the window reaches it.
     New,

@@ -6,7 +6,7 @@ ghost use Rattle.sg_rtp.specs.Heads.{rtp_head, rtcp_head, IsRtpHead, IsRtcpHead,
 use sg_base::{HeadFault, read_u16, read_u32};
 
 /// What an RTP packet's head says. Its length in octets counts the CSRC list and the extension too.
-#[derive(Clone, Copy, Debug, PartialEq, Eq)]
+#[derive(Clone, Copy, PartialEq, Eq)]
 pub struct RtpHead {
     pub length: usize,
     pub seq: u16,
@@ -14,7 +14,7 @@ pub struct RtpHead {
 }
 
 /// What an RTCP packet's head says: the SSRC of its sender.
-#[derive(Clone, Copy, Debug, PartialEq, Eq)]
+#[derive(Clone, Copy, PartialEq, Eq)]
 pub struct RtcpHead {
     pub ssrc: u32,
 }

@@ -8,7 +8,7 @@ use std::alloc::{AllocError, AllocFailed};
 
 /// Why a text isn't read: the first line that isn't one of a description and its first fault, or out of
 /// memory. Lines count from 1; line 0 stands for the whole text.
-#[derive(Clone, Copy, Debug, PartialEq, Eq)]
+#[derive(Clone, Copy, PartialEq, Eq)]
 pub enum ReadSdpFault {
     Sdp { line: u32, fault: SdpFault },
     NoMemory,

@@ -9,7 +9,7 @@ pub type Lines = Items<Octets>;
 pub type Media = Items<Medium>;
 
 /// How a medium is transported, by the protocol word of its `m=` line.
-#[derive(Clone, Copy, Debug, PartialEq, Eq)]
+#[derive(Clone, Copy, PartialEq, Eq)]
 pub enum Profile {
     /// `RTP/AVP` (RFC 3551)
     Avp,

@@ -5,7 +5,7 @@ ghost use Rattle.std.specs.Prelude.{◌≡◌};
 use sg_base::Kind;
 
 /// Whether a session opens what the peer has sealed, or seals for the peer.
-#[derive(Clone, Copy, Debug, PartialEq, Eq)]
+#[derive(Clone, Copy, PartialEq, Eq)]
 pub enum Direction {
     Opening,
     Sealing,
@@ -26,7 +26,7 @@ impl Direction {
 
 /// Whose a key is: the number of calls that were made before its call, the medium, the generation and
 /// the direction. A call's id isn't a name, since an id may be used again.
-#[derive(Clone, Copy, Debug, PartialEq, Eq)]
+#[derive(Clone, Copy, PartialEq, Eq)]
 pub struct Owner {
     pub call: u64,
     pub medium: u8,
@@ -35,7 +35,7 @@ pub struct Owner {
 }
 
 /// A session is named by the owner of its keys and by its kind.
-#[derive(Clone, Copy, Debug, PartialEq, Eq)]
+#[derive(Clone, Copy, PartialEq, Eq)]
 pub struct Name {
     pub owner: Owner,
     pub kind: Kind,

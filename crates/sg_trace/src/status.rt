@@ -9,7 +9,7 @@ use sg_pcap::CaptureFault;
 use std::fmt;
 
 /// How a run has ended. It holds no octet of a key.
-#[derive(Clone, Copy, Debug, PartialEq, Eq)]
+#[derive(Clone, Copy, PartialEq, Eq)]
 pub enum Status {
     /// All is handled, and the source is at its end.
     Done,
