@@ -14,14 +14,14 @@ use sg_hmac::MacKey;
 use std::marker::Model;
 
 /// Why no key opens a datagram.
-#[derive(Clone, Copy, Debug, PartialEq, Eq)]
+#[derive(Clone, Copy, PartialEq, Eq)]
 pub enum OpenKeyFault {
     MkiUnknown,
     KeySpent { number: u32, count: u64 },
 }
 
 /// The last key of a session whose keys are all spent.
-#[derive(Clone, Copy, Debug, PartialEq, Eq)]
+#[derive(Clone, Copy, PartialEq, Eq)]
 pub struct Spent {
     pub number: u32,
     pub count: u64,

@@ -1,5 +1,6 @@
 -- What is given, step by step.
-use Rattle.std.proofs.Common.{◌≡◌, ℕ, ◌+◌, List, [], ◌∷◌, ◌++◌, append_assoc, drop, Option, option_map, Result, Ok, sym, ap, ◌∙◌}
+use Rattle.std.proofs.Common.{◌≡◌, ℕ, ◌+◌, ◌<◌, List, [], ◌∷◌, ◌++◌, append_assoc, length, map, drop, get_or, Option, option_map, Result, Ok, sym, ap, ◌∙◌}
+use Rattle.sg_agreement.proofs.Walks.{split_at}
 use Rattle.sg_agreement.specs.Keyed.{Keyed, medium_agreed, media_agreed}
 use Rattle.sg_agreement.specs.Keying.{Keying}
 use Rattle.sg_agreement.specs.Media.{Medium}
@@ -20,3 +21,8 @@ agreed_next side i m ms n ns k ks done done' x am an ak is pushed so =
     ∙ append_assoc done (x ∷ []) (media_agreed side (drop (i + 1) ms) (drop (i + 1) ns) (drop (i + 1) ks))
     ∙ ap (λ x. done ++ x ∷ media_agreed side (drop (i + 1) ms) (drop (i + 1) ns) (drop (i + 1) ks)) is
     ∙ (λ j. done ++ media_agreed side (sym am j) (sym an j) (sym ak j)) ∙ so
+
+pub map_next : {X Y : Type 0} (f : X → Y) (i : ℕ) (xs : List X) (x : X) (done done' : List Y) → i < length xs → x ≡ get_or xs i x → done' ≡ done ++ f x ∷ []
+    → done ++ map f (drop i xs) ≡ map f xs → done' ++ map f (drop (i + 1) xs) ≡ map f xs
+map_next f i xs x done done' lt at pushed so =
+    ap (λ l. l ++ map f (drop (i + 1) xs)) pushed ∙ append_assoc done (f x ∷ []) (map f (drop (i + 1) xs)) ∙ ap (λ l. done ++ map f l) (sym (split_at i x xs lt (sym at))) ∙ so

@@ -353,28 +353,13 @@ fn responded(
     let mut all = Vec::new(alloc);
     let mut left = map;
     for pair in streams {
-        let (initiator, responder) = pair;
+        let (initiator, mut responder) = pair;
         let [_, entry, others @ ..] = left else {
             break;
         };
-        let StreamKeys {
-            suite,
-            keys,
-            plain_rtp,
-            plain_rtcp,
-            ..
-        } = responder;
-        all.push((
-            initiator,
-            StreamKeys {
-                suite,
-                keys,
-                ssrc: entry.ssrc,
-                roc: entry.roc,
-                plain_rtp,
-                plain_rtcp,
-            },
-        ))?;
+        responder.ssrc = entry.ssrc;
+        responder.roc = entry.roc;
+        all.push((initiator, responder))?;
         left = others;
     }
     Ok(Items::from_vec(all))
