@@ -353,13 +353,16 @@ fn responded(
     let mut all = Vec::new(alloc);
     let mut left = map;
     for pair in streams {
-        let (initiator, mut responder) = pair;
+        let (initiator, responder) = pair;
         let [_, entry, others @ ..] = left else {
             break;
         };
-        responder.ssrc = entry.ssrc;
-        responder.roc = entry.roc;
-        all.push((initiator, responder))?;
+        let answered = StreamKeys {
+            ssrc: entry.ssrc,
+            roc: entry.roc,
+            ..responder
+        };
+        all.push((initiator, answered))?;
         left = others;
     }
     Ok(Items::from_vec(all))
