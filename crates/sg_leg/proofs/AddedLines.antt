@@ -38,10 +38,10 @@ media_none zero (m ∷ ms) = refl
 media_none (suc k) [] = refl
 media_none (suc k) (m ∷ ms) = ap (λ l. m ∷ l) (media_none k ms)
 
-pub text_is : (ports : List ℕ) (profiles : List Profile) (session : List (List ℕ)) (media : List (List (List ℕ))) (s a b d : Sdp) {text : List ℕ}
+pub text_is : (ports : List ℕ) (profiles : List Profile) (session : List (List ℕ)) (media : List (List (List ℕ))) (s a b d : Sdp)
     → a ≡ carried ports profiles s → b ≡ record { session = a.session ++ session; media = a.media } → d ≡ record { session = b.session; media = with_media_lines b.media media }
-    → text ≡ spelling d → text ≡ carried_text ports profiles (record { session = session; media = media }) s
+    → spelling d ≡ carried_text ports profiles (record { session = session; media = media }) s
 unfolding carried_text
-text_is ports profiles session media s a b d first second third e =
-    e ∙ ap spelling (third ∙ ap (λ (b : Sdp). let d : Sdp = record { session = b.session; media = with_media_lines b.media media } in d) (second
+text_is ports profiles session media s a b d first second third =
+    ap spelling (third ∙ ap (λ (b : Sdp). let d : Sdp = record { session = b.session; media = with_media_lines b.media media } in d) (second
     ∙ ap (λ (a : Sdp). let b : Sdp = record { session = a.session ++ session; media = a.media } in b) first))

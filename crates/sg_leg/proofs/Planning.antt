@@ -55,6 +55,9 @@ module _ (x : Medium) (call generation medium n : ℕ) where
           ),
         )
 
+two : {X : Type 0} (a b c : List X) → (a ++ (b ++ [])) ++ c ≡ a ++ (b ++ c)
+two a b c = ap (λ l. (a ++ l) ++ c) (append-nil b) ∙ append_assoc a b c
+
 -- the sessions of one medium more stand before those of the rest
 pub first_planned : (call generation m n count : ℕ) (x : Medium) (rest : List (Option Medium)) (of_one more : List Planned) → EachPair IsPlanned of_one (sessions_from call generation m n (Some x ∷ []))
     → count ≡ n + length x.from_peer.keys + length x.to_peer.keys
@@ -71,9 +74,6 @@ first_planned call generation m n count x rest of_one more these many later =
 
     later_sessions : List Session
     later_sessions = sessions_from call generation (m + 1) (n + length x.from_peer.keys + length x.to_peer.keys) rest
-
-    two : (a b c : List Session) → (a ++ (b ++ [])) ++ c ≡ a ++ (b ++ c)
-    two a b c = ap (λ l. (a ++ l) ++ c) (append-nil b) ∙ append_assoc a b c
 
 -- one more behind what was added
 pub pushed : (before now next these : List Planned) (p : Planned) → now ≡ before ++ these → next ≡ now ++ p ∷ [] → next ≡ before ++ (these ++ p ∷ [])
@@ -98,6 +98,13 @@ WillBePlanned m first media plan count left =
     (call generation : ℕ) (more : List Planned) → EachPair IsPlanned more (sessions_from call generation m (first + count) left)
     → EachPair IsPlanned (plan ++ more) (sessions_from call generation 0 first media)
 
+pub will_next : (m first : ℕ) (media before left : List (Option Medium)) (x : Option Medium) (plan plan' : List Planned) (count count' : ℕ) → before ≡ x ∷ left
+    → WillBePlanned m first media plan count before → IsNext m first x plan count plan' count' → WillBePlanned (m + 1) first media plan' count' left
+will_next m first media before left x plan plan' count count' is will next = λ call generation more later.
+    let (these, added, each) = next call generation left more later in
+    subst (λ l. EachPair IsPlanned l (sessions_from call generation 0 first media)) (sym (ap (λ l. l ++ more) added ∙ append_assoc plan these more))
+    (will call generation (these ++ more) (subst (λ l. EachPair IsPlanned (these ++ more) (sessions_from call generation m (first + count) l)) (sym is) each))
+
 pub will_be_all : (m first : ℕ) (media : List (Option Medium)) (plan : List Planned) (count : ℕ) (left : List (Option Medium)) → left ≡ [] → WillBePlanned m first media plan count left
     → (call generation : ℕ) → ArePlanned plan (sessions_from call generation 0 first media)
 will_be_all m first media plan count left none will = λ call generation.
@@ -119,3 +126,12 @@ keys_are call generation m (Some x ∷ ms) =
     let rest : List Installed = keys_from call generation (m + 1) ms in
     map-append key_of a (b ++ rest) ∙ ap (λ l. keys_of a ++ l) (map-append key_of b rest)
     ∙ (λ i. owned_keys (owner_at call generation m Opening) x.from_peer.keys i ++ (owned_keys (owner_at call generation m Sealing) x.to_peer.keys i ++ keys_are call generation (m + 1) ms i))
+
+-- the keys of one medium more
+keys_first : (x : Option Medium) (rest : List (Option Medium)) → media_keys (x ∷ []) ++ media_keys rest ≡ media_keys (x ∷ rest)
+keys_first None rest = refl
+keys_first (Some x) rest = two (ring_keys x.from_peer.keys) (ring_keys x.to_peer.keys) (media_keys rest)
+
+pub keys_next : (x : Option Medium) (before rest : List (Option Medium)) (keys keys' all : List RingKey) → before ≡ x ∷ rest → keys' ≡ keys ++ media_keys (x ∷ []) → keys ++ media_keys before ≡ all → keys' ++ media_keys rest ≡ all
+keys_next x before rest keys keys' all is pushed so =
+    ap (λ l. l ++ media_keys rest) pushed ∙ append_assoc keys (media_keys (x ∷ [])) (media_keys rest) ∙ ap (λ l. keys ++ l) (keys_first x rest ∙ ap media_keys (sym is)) ∙ so

@@ -307,7 +307,7 @@ pub(crate) fn answered_text(
     let profiles = profiles_of(alloc, offered)?;
     let lines = lines_of(alloc, keyed.media.as_slice())?;
     let session = keyed.session.as_slice();
-    Ok(carried_text(alloc, ports.as_slice(), &profiles, session, &lines, answer)?)
+    carried_text(alloc, ports.as_slice(), &profiles, session, &lines, answer)
 }
 
 fn profiles_of(alloc: Global, media: &[sdp::Medium]) -> Result<Vec<Profile>, NoMemory>
@@ -347,5 +347,5 @@ pub(crate) fn offered_text(
     let active = actives(side, offer.media.as_slice());
     let ports = ports_of(slot, other_side(side), active.as_slice());
     let profiles = exchanged_profiles(alloc, offer.media.as_slice())?;
-    Ok(carried_text(alloc, ports.as_slice(), &profiles, session, media, offer)?)
+    carried_text(alloc, ports.as_slice(), &profiles, session, media, offer)
 }

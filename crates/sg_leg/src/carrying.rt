@@ -70,7 +70,7 @@ pub(crate) fn carried_text(
     let mut carried = sdp.carry(alloc, ports, profiles)?;
     add_session_lines(&mut carried, session)?;
     add_media_lines(&mut carried, media)?;
-    Ok(carried.print(alloc)?)
+    carried.print(alloc)
 }
 
 fn add_session_lines(sdp: &mut Sdp, lines: &[Octets]) -> Result<(), NoMemory>

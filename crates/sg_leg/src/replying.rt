@@ -357,24 +357,12 @@ fn responded(
         let [_, entry, others @ ..] = left else {
             break;
         };
-        let StreamKeys {
-            suite,
-            keys,
-            plain_rtp,
-            plain_rtcp,
-            ..
-        } = responder;
-        all.push((
-            initiator,
-            StreamKeys {
-                suite,
-                keys,
-                ssrc: entry.ssrc,
-                roc: entry.roc,
-                plain_rtp,
-                plain_rtcp,
-            },
-        ))?;
+        let answered = StreamKeys {
+            ssrc: entry.ssrc,
+            roc: entry.roc,
+            ..responder
+        };
+        all.push((initiator, answered))?;
         left = others;
     }
     Ok(Items::from_vec(all))

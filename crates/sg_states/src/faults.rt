@@ -7,7 +7,7 @@ ghost use Rattle.sg_states.specs.Faults.{place_cause, number_cause, stale_cause}
 use sg_base::IndexFault;
 
 /// Why a packet of RTP has no new index in its stream (RFC 3711, 3.3.1 and 3.3.2).
-#[derive(Clone, Copy, PartialEq, Eq)]
+#[derive(Clone, Copy)]
 pub enum PlaceFault {
     BeforeFirst = 1,
     IndexSpent = 2,
@@ -16,19 +16,19 @@ pub enum PlaceFault {
 }
 
 /// Why an index isn't new in its stream (RFC 3711, 3.3.2).
-#[derive(Clone, Copy, PartialEq, Eq)]
+#[derive(Clone, Copy)]
 pub enum Stale {
     Repeat = 3,
     TooOld = 4,
 }
 
 /// The tag isn't that of the datagram (RFC 3711, 3.3).
-#[derive(Clone, Copy, PartialEq, Eq)]
+#[derive(Clone, Copy)]
 pub struct BadTag;
 
 /// Why a packet of RTP can't be sealed: its keys are spent, of which the last one's number and count are
 /// told, or it has no new index.
-#[derive(Clone, Copy, PartialEq, Eq)]
+#[derive(Clone, Copy)]
 pub enum NumberFault {
     KeySpent { number: u32, count: u64 },
     BeforeFirst,
@@ -39,7 +39,7 @@ pub enum NumberFault {
 
 /// Why a packet of RTCP can't be sealed: its keys are spent, of which the last one's number and count are
 /// told, or its stream's indices are.
-#[derive(Clone, Copy, PartialEq, Eq)]
+#[derive(Clone, Copy)]
 pub enum RtcpNumberFault {
     KeySpent { number: u32, count: u64 },
     RtcpIndexSpent,

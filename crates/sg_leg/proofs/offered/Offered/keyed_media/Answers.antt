@@ -1,4 +1,5 @@
-use Rattle.std.proofs.Common.{◌∙◌, length, map, Ok, sym, ap, subst}
+use Rattle.std.proofs.Common.{◌∙◌, length, map, Ok, sym, ap, arith, subst}
+use Rattle.std.proofs.lemmas.Grind.{common_steps}
 use Rattle.std.specs.List.{AllByRecursion}
 use Rattle.sg_agreement.specs.Answers.{answered_by}
 use Rattle.sg_agreement.specs.EachMedium.{each_kept}
@@ -57,3 +58,15 @@ returns-in-Ok-by_media_messages c = λ offer is.
     (c.of_media-in-Ok-by_media_messages.ensures (each_kept (λ k x n. Ok (keyed_by_message x n)) 0 c.args.active.now (map own_streams p.0) c.args.answer.now.media)
     ((λ i. each_kept (λ k x n. Ok (keyed_by_message x n)) 0 c.args.active.now (map own_streams p.0) (sym c.as_slice-media.ensures i))
     ∙ c.in-Ok-by_media_messages.ensures p.0 (subst (λ bs. EachPair (IsBundleIf c.args.psks.now) bs p.0) (sym c.as_slice-in-PeerMessages.ensures) p.2)))
+
+pub returns-in-PeerLines : goal.returns-in-PeerLines
+returns-in-PeerLines c = λ offer is. grind (arith, common_steps)
+
+pub returns-in-OwnLines : goal.returns-in-OwnLines
+returns-in-OwnLines c = λ offer is. grind (arith, common_steps)
+
+pub returns-in-OwnMessage : goal.returns-in-OwnMessage
+returns-in-OwnMessage c = λ offer is. grind (arith, common_steps)
+
+pub returns-in-Ok : goal.returns-in-Ok
+returns-in-Ok c = λ offer is. grind (arith, common_steps)

@@ -1,0 +1,6 @@
+use Rattle.std.proofs.Common.{arith}
+use Rattle.std.proofs.lemmas.Grind.{common_steps}
+use Rattle.sg_leg.proofs.answering.lines_of.Goals as goal
+
+pub loop-medium-preserved : goal.loop-medium-preserved
+loop-medium-preserved c = grind (arith, common_steps)
