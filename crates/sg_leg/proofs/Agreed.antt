@@ -22,10 +22,8 @@ use Rattle.sg_leg.specs.Values.{OfferedValue}
 use Rattle.sg_leg.proofs.Agreeing.{AreSound, active_long, all_served, answer_is, answer_long, are_addressed, keyed_long, not_answered, not_described}
 
 pub media_low : (side : Side) (ms ns : List descriptions.Medium) (ks : List (Option Keyed)) → length (media_agreed side ms ns ks) ≤ length ms
-media_low side [] ns ks = omega arith
-media_low side (m ∷ ms) [] ks = omega arith
-media_low side (m ∷ ms) (n ∷ ns) [] = omega arith
 media_low side (m ∷ ms) (n ∷ ns) (k ∷ ks) = let low = media_low side ms ns ks in omega (arith, low)
+media_low side ms ns ks = omega arith
 
 module _ (pairs : List Pair) (o : OfferedValue) (offer : Offer) (open_so : IsOpen pairs o offer) (noise text : List ℕ) (side : Side) (n : ℕ) (side_is : side ≡ other_side o.side) (n_is : n ≡ length o.description.media) where
   read_as : (r : Result Sdp Refusal) → described side (Some n) text ≡ r → described (other_side offer.side) (Some (length offer.description.media)) text ≡ r

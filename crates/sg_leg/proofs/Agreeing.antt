@@ -165,10 +165,8 @@ agreed_served Secure (Some k) m n is = between_served k m n is
 agreed_served Plain (Some k) m n is = between_served k n m is
 
 media_served : (side : Side) (ms ns : List descriptions.Medium) (ks : List (Option Keyed)) → AllByRecursion IsSoundMedium (media_agreed side ms ns ks) → AllByRecursion IsServedIf (media_agreed side ms ns ks)
-media_served side [] ns ks p = tt
-media_served side (m ∷ ms) [] ks p = tt
-media_served side (m ∷ ms) (n ∷ ns) [] p = tt
 media_served side (m ∷ ms) (n ∷ ns) (k ∷ ks) p = (agreed_served side k m n p.0, media_served side ms ns ks p.1)
+media_served side ms ns ks p = tt
 
 -- what the law of agreements says
 abbrev pub AreSound : Type 0

@@ -44,10 +44,8 @@ bundles_few pairs (Some b ∷ bs) (None ∷ cs) p q = absurd p.0
 bundles_few pairs (Some b ∷ bs) (Some c ∷ cs) p q = (subst (AllByRecursion HasFewKeys) (sym p.0.streams) (each_few c.streams q.0), bundles_few pairs bs cs p.1 q.1)
 
 responded_few : (ss : List (StreamKeys × StreamKeys)) (entries : List CsEntry) → AllByRecursion HasFewKeys ss → AllByRecursion HasFewKeys (responded ss entries)
-responded_few [] entries all = tt
-responded_few (s ∷ ss) [] all = tt
-responded_few (s ∷ ss) (i ∷ []) all = tt
 responded_few (s ∷ ss) (i ∷ r ∷ entries) all = (all.0, responded_few ss entries all.1)
+responded_few ss entries all = tt
 
 pub will_few : (s : Sent) → AreSoundTgks s.tgks → WillHaveFewKeys s
 unfolding streams_answered

@@ -182,14 +182,10 @@ has_room pairs kept octets m now i is = given_room pairs kept octets m now i (in
 
 -- ---- one medium, and a walk
 
-if_bundled : (h : AtHand) (pairs : List Pair) (count k : ℕ) (value : Option (List ℕ)) (on : Bool) (b : kept.Bundle) → on ≡ true → (c : Bundle) × (bundle_in h k count value ≡ Ok c) × IsBundleOf pairs b c
-    → (o : Option Bundle) × (if_active on (bundle_in h k count value) ≡ Ok o) × IsBundleIf pairs (Some b) o
-if_bundled h pairs count k value true b is (c, e, of) = (Some c, ap (λ r. after_ok r (λ x. Ok (Some x))) e, of)
-if_bundled h pairs count k value false b is p = absurd cc
-
 pub one_bundle : (h : AtHand) (pairs : List Pair) (count k : ℕ) (value : Option (List ℕ)) (on : Bool) (b : kept.Bundle) → on ≡ true → (c : Bundle) × (bundle_in h k count value ≡ Ok c) × IsBundleOf pairs b c
     → (o : Option Bundle) × (if_active on (bundle_in h k count value) ≡ Ok o) × IsBundleIf pairs (Some b) o
-one_bundle = if_bundled
+one_bundle h pairs count k value true b is (c, e, of) = (Some c, ap (λ r. after_ok r (λ x. Ok (Some x))) e, of)
+one_bundle h pairs count k value false b is p = absurd cc
 
 pairs_push : {X Y : Type 0} (R : X → Y → Type 0) (xs : List X) (ys : List Y) (x : X) (y : Y) → EachPair R xs ys → R x y → EachPair R (xs ++ x ∷ []) (ys ++ y ∷ [])
 pairs_push R xs ys x y p q = pairs_append R xs (x ∷ []) ys (y ∷ []) p (q, tt)

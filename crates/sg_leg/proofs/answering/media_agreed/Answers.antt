@@ -1,4 +1,5 @@
 use Rattle.std.proofs.Common.{refl, sym, length, arith}
+use Rattle.std.proofs.lemmas.Grind.{common_steps}
 use Rattle.std.proofs.lemmas.Option.{slice_get_read}
 use Rattle.sg_agreement.proofs.Walks.{split_at}
 use Rattle.sg_leg.proofs.Gives.{agreed_next}
@@ -25,3 +26,6 @@ loop-m-preserved c =
     (split_at c.loop-m.m c.index-answered-m.result c.args.answered.now (let a = c.loop-m-test.true in let b = c.requires.keyed in let d = c.requires.answers in omega (arith, a, b, d)) (sym c.index-answered-m.is))
     (split_at c.loop-m.m c.index-keyed-m.result c.args.keyed.now c.loop-m-test.true (sym c.index-keyed-m.is))
     c.agreed_if-next.ensures c.in_ok-push.ensures.items c.loop-m.invariant
+
+pub returns : goal.returns
+returns c = grind (arith, common_steps)

@@ -1,9 +1,6 @@
-use Rattle.std.proofs.Common.{map, refl}
-use Rattle.sg_sdp.specs.declared.medium.Medium as descriptions
-use Rattle.sg_leg.proofs.Gives.{push_next}
+use Rattle.std.proofs.Common.{arith}
+use Rattle.std.proofs.lemmas.Grind.{common_steps}
 use Rattle.sg_leg.proofs.answering.profiles_of.Goals as goal
 
 pub loop-medium-preserved : goal.loop-medium-preserved
-loop-medium-preserved c =
-    push_next (map (λ (m : descriptions.Medium). m.profile)) c.loop-medium.medium-index c.args.media.now c.medium-item.result _ c.loop-medium.profiles.items c.push.new.self.items _
-    c.loop-medium-test.true c.medium-item.is refl c.in_ok-push.ensures.items c.loop-medium.invariant
+loop-medium-preserved c = grind (arith, common_steps)

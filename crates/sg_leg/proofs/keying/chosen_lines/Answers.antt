@@ -1,4 +1,4 @@
-use Rattle.std.proofs.Common.{◌∙◌, List, Option, Result, Ok, Err, sym, ap, subst}
+use Rattle.std.proofs.Common.{◌∙◌, ◌+◌, List, [], ◌∷◌, ◌++◌, Option, Result, Ok, Err, drop, sym, ap, subst}
 use Rattle.std.proofs.Math.ListN.{drop_of_length-le}
 use Rattle.std.proofs.lemmas.List.{append-nil}
 use Rattle.sg_agreement.proofs.Walks.{active_at}
@@ -12,7 +12,6 @@ use Rattle.sg_base.specs.declared.faults.Refusal.{Refusal}
 use Rattle.sg_sdes.specs.declared.lines.CryptoLine.{CryptoLine}
 use Rattle.sg_session.specs.Stages.{after_ok}
 use Rattle.sg_leg.specs.Answering.{Tells}
-use Rattle.sg_leg.proofs.Gives.{active_step}
 use Rattle.sg_leg.proofs.keying.chosen_lines.Goals as goal
 
 -- what follows a refusal isn't reached
@@ -30,8 +29,12 @@ returns-in-Err c =
 
 pub loop-m-preserved : goal.loop-m-preserved
 loop-m-preserved c =
-    active_step Secure chosen_in c.loop-m.m c.index-media-m.result c.args.media.now c.in-Ok.next c.loop-m.lines.items c.push.new.self.items _ c.loop-m-test.true c.index-media-m.is c.in-Ok.ensures
-    c.in_ok-push-in-Ok.ensures.items c.loop-m.invariant
+    let done = c.loop-m.lines.items in
+    let next = c.loop-m.m + 1 in
+    ap (λ d. prefixed d (each_active Secure chosen_in next (drop next c.args.media.now))) c.in_ok-push-in-Ok.ensures.items
+    ∙ sym (ap (λ r. after_ok r (λ x. prefixed (done ++ x ∷ []) (each_active Secure chosen_in next (drop next c.args.media.now)))) c.in-Ok.ensures)
+    ∙ sym (active_at Secure chosen_in done c.loop-m.m c.index-media-m.result c.args.media.now c.loop-m-test.true (sym c.index-media-m.is))
+    ∙ c.loop-m.invariant
 
 pub returns : goal.returns
 returns c =

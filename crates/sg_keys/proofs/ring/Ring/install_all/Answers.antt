@@ -1,71 +1,63 @@
-use Rattle.std.proofs.Common.{◌≡◌, List, Some, None, map, length, arith, sym, ap, ◌∙◌}
+use Rattle.std.proofs.Common.{◌≡◌, ℕ, List, Option, Some, None, map, length, arith, sym, ap, ◌∙◌}
 use Rattle.std.proofs.lemmas.List.{length-map, map-id}
 use Rattle.sg_session.specs.Ring.{RingKey, key_of}
 use Rattle.sg_keys.specs.Reused.{given, reused}
 use Rattle.sg_keys.proofs.Reusing.{reused_says, full_says, fits_says}
 use Rattle.sg_keys.proofs.ring.Ring.install_all.Goals as goal
 
-abbrev same : List RingKey → List RingKey
-same keys = map (λ k. k) keys
+told : (held ring news : List RingKey) (o : Option ℕ) → held ≡ ring → o ≡ reused held news → reused ring news ≡ o
+told held ring news o is e = ap (λ ring. reused ring news) (sym is) ∙ sym e
 
 pub returns-in-Some-clause-answer : goal.returns-in-Some-clause-answer
 returns-in-Some-clause-answer c =
     let news : List RingKey = map given c.args.keys.now in
-    let held : c.deref.result.now ≡ c.args.self.now = c.deref.ensures.value ∙ c.self.view_is in
-    let told : reused c.args.self.now news ≡ Some c.in-Some.number = ap (λ (ring : List RingKey). reused ring news) (sym held) ∙ sym (c.in-Some.ensures.reused) in
-    reused_says (λ k. k) c.args.self.now news c.args.self.now news (map-id c.args.self.now) (map-id news) c.in-Some.number told
+    reused_says (λ k. k) c.args.self.now news c.args.self.now news (map-id c.args.self.now) (map-id news) c.in-Some.number
+    (told c.deref.result.now c.args.self.now news (Some c.in-Some.number) (c.deref.ensures.value ∙ c.self.view_is) c.in-Some.ensures.reused)
 
 pub returns-in-Some-clause-installs : goal.returns-in-Some-clause-installs
-returns-in-Some-clause-installs c =
+returns-in-Some-clause-installs c = λ ring new a b.
     let news : List RingKey = map given c.args.keys.now in
-    let held : c.deref.result.now ≡ c.args.self.now = c.deref.ensures.value ∙ c.self.view_is in
-    let told : reused c.args.self.now news ≡ Some c.in-Some.number = ap (λ (ring : List RingKey). reused ring news) (sym held) ∙ sym (c.in-Some.ensures.reused) in
-    λ ring new a b. reused_says key_of ring new c.args.self.now news a b c.in-Some.number told
+    reused_says key_of ring new c.args.self.now news a b c.in-Some.number
+    (told c.deref.result.now c.args.self.now news (Some c.in-Some.number) (c.deref.ensures.value ∙ c.self.view_is) c.in-Some.ensures.reused)
 
 pub returns-then-first-keys-gt-RING_KEYS_MOST-clause-answer : goal.returns-then-first-keys-gt-RING_KEYS_MOST-clause-answer
 returns-then-first-keys-gt-RING_KEYS_MOST-clause-answer c =
     let news : List RingKey = map given c.args.keys.now in
     let held : c.deref.result.now ≡ c.args.self.now = c.deref.ensures.value ∙ c.self.view_is in
-    let none : reused c.args.self.now news ≡ None = ap (λ (ring : List RingKey). reused ring news) (sym held) ∙ sym (c.in_default.ensures.reused) in
-    let count : length c.args.self.now ≡ c.len-first.result = omega (arith, c.deref.ensures.len, c.len-first.ensures, ap length held) in
-    full_says (λ k. k) c.args.self.now news c.args.self.now news (map-id c.args.self.now) (map-id news) none (omega (arith, count, length-map c.args.keys.now given, c.if-first-keys-gt-RING_KEYS_MOST.true))
+    full_says (λ k. k) c.args.self.now news c.args.self.now news (map-id c.args.self.now) (map-id news) (told c.deref.result.now c.args.self.now news None held c.in_default.ensures.reused)
+    (omega (arith, c.deref.ensures.len, c.len-first.ensures, ap length held, length-map c.args.keys.now given, c.if-first-keys-gt-RING_KEYS_MOST.true))
 
 pub returns-then-first-keys-gt-RING_KEYS_MOST-clause-installs : goal.returns-then-first-keys-gt-RING_KEYS_MOST-clause-installs
-returns-then-first-keys-gt-RING_KEYS_MOST-clause-installs c =
+returns-then-first-keys-gt-RING_KEYS_MOST-clause-installs c = λ ring new a b.
     let news : List RingKey = map given c.args.keys.now in
     let held : c.deref.result.now ≡ c.args.self.now = c.deref.ensures.value ∙ c.self.view_is in
-    let none : reused c.args.self.now news ≡ None = ap (λ (ring : List RingKey). reused ring news) (sym held) ∙ sym (c.in_default.ensures.reused) in
-    let count : length c.args.self.now ≡ c.len-first.result = omega (arith, c.deref.ensures.len, c.len-first.ensures, ap length held) in
-    λ ring new a b. full_says key_of ring new c.args.self.now news a b none (omega (arith, count, length-map c.args.keys.now given, c.if-first-keys-gt-RING_KEYS_MOST.true))
+    full_says key_of ring new c.args.self.now news a b (told c.deref.result.now c.args.self.now news None held c.in_default.ensures.reused)
+    (omega (arith, c.deref.ensures.len, c.len-first.ensures, ap length held, length-map c.args.keys.now given, c.if-first-keys-gt-RING_KEYS_MOST.true))
 
 pub returns-in-Ok-clause-answer : goal.returns-in-Ok-clause-answer
 returns-in-Ok-clause-answer c =
     let news : List RingKey = map given c.args.keys.now in
     let held : c.deref.result.now ≡ c.args.self.now = c.deref.ensures.value ∙ c.self.view_is in
-    let none : reused c.args.self.now news ≡ None = ap (λ (ring : List RingKey). reused ring news) (sym held) ∙ sym (c.in_default.ensures.reused) in
-    let count : length c.args.self.now ≡ c.len-first.result = omega (arith, c.deref.ensures.len, c.len-first.ensures, ap length held) in
-    fits_says (λ k. k) c.args.self.now news c.args.self.now news (map-id c.args.self.now) (map-id news) none (omega (arith, count, length-map c.args.keys.now given, c.if-first-keys-gt-RING_KEYS_MOST.false))
+    fits_says (λ k. k) c.args.self.now news c.args.self.now news (map-id c.args.self.now) (map-id news) (told c.deref.result.now c.args.self.now news None held c.in_default.ensures.reused)
+    (omega (arith, c.deref.ensures.len, c.len-first.ensures, ap length held, length-map c.args.keys.now given, c.if-first-keys-gt-RING_KEYS_MOST.false))
 
 pub returns-in-Ok-clause-installs : goal.returns-in-Ok-clause-installs
-returns-in-Ok-clause-installs c =
+returns-in-Ok-clause-installs c = λ ring new a b.
     let news : List RingKey = map given c.args.keys.now in
     let held : c.deref.result.now ≡ c.args.self.now = c.deref.ensures.value ∙ c.self.view_is in
-    let none : reused c.args.self.now news ≡ None = ap (λ (ring : List RingKey). reused ring news) (sym held) ∙ sym (c.in_default.ensures.reused) in
-    let count : length c.args.self.now ≡ c.len-first.result = omega (arith, c.deref.ensures.len, c.len-first.ensures, ap length held) in
-    λ ring new a b. fits_says key_of ring new c.args.self.now news a b none (omega (arith, count, length-map c.args.keys.now given, c.if-first-keys-gt-RING_KEYS_MOST.false))
+    fits_says key_of ring new c.args.self.now news a b (told c.deref.result.now c.args.self.now news None held c.in_default.ensures.reused)
+    (omega (arith, c.deref.ensures.len, c.len-first.ensures, ap length held, length-map c.args.keys.now given, c.if-first-keys-gt-RING_KEYS_MOST.false))
 
 pub returns-in-Err-clause-answer : goal.returns-in-Err-clause-answer
 returns-in-Err-clause-answer c =
     let news : List RingKey = map given c.args.keys.now in
     let held : c.deref.result.now ≡ c.args.self.now = c.deref.ensures.value ∙ c.self.view_is in
-    let none : reused c.args.self.now news ≡ None = ap (λ (ring : List RingKey). reused ring news) (sym held) ∙ sym (c.in_default.ensures.reused) in
-    let count : length c.args.self.now ≡ c.len-first.result = omega (arith, c.deref.ensures.len, c.len-first.ensures, ap length held) in
-    fits_says (λ k. k) c.args.self.now news c.args.self.now news (map-id c.args.self.now) (map-id news) none (omega (arith, count, length-map c.args.keys.now given, c.if-first-keys-gt-RING_KEYS_MOST.false))
+    fits_says (λ k. k) c.args.self.now news c.args.self.now news (map-id c.args.self.now) (map-id news) (told c.deref.result.now c.args.self.now news None held c.in_default.ensures.reused)
+    (omega (arith, c.deref.ensures.len, c.len-first.ensures, ap length held, length-map c.args.keys.now given, c.if-first-keys-gt-RING_KEYS_MOST.false))
 
 pub returns-in-Err-clause-installs : goal.returns-in-Err-clause-installs
-returns-in-Err-clause-installs c =
+returns-in-Err-clause-installs c = λ ring new a b.
     let news : List RingKey = map given c.args.keys.now in
     let held : c.deref.result.now ≡ c.args.self.now = c.deref.ensures.value ∙ c.self.view_is in
-    let none : reused c.args.self.now news ≡ None = ap (λ (ring : List RingKey). reused ring news) (sym held) ∙ sym (c.in_default.ensures.reused) in
-    let count : length c.args.self.now ≡ c.len-first.result = omega (arith, c.deref.ensures.len, c.len-first.ensures, ap length held) in
-    λ ring new a b. fits_says key_of ring new c.args.self.now news a b none (omega (arith, count, length-map c.args.keys.now given, c.if-first-keys-gt-RING_KEYS_MOST.false))
+    fits_says key_of ring new c.args.self.now news a b (told c.deref.result.now c.args.self.now news None held c.in_default.ensures.reused)
+    (omega (arith, c.deref.ensures.len, c.len-first.ensures, ap length held, length-map c.args.keys.now given, c.if-first-keys-gt-RING_KEYS_MOST.false))

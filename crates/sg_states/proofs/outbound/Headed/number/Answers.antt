@@ -1,4 +1,5 @@
-use Rattle.std.proofs.Common.{◌≡◌, ◌++◌, ◌∷◌, [], Result, Err, ℕ, ap, subst, sym, ◌∙◌}
+use Rattle.std.proofs.Common.{arith, ◌≡◌, ◌++◌, ◌∷◌, [], Result, Err, ℕ, ap, subst, sym, ◌∙◌}
+use Rattle.std.proofs.lemmas.Grind.{common_steps}
 use Rattle.sg_base.specs.declared.addresses.Kind.TheVariants.{Rtp}
 use Rattle.sg_base.specs.declared.faults.DropCause.{DropCause}
 use Rattle.sg_states.specs.Faults.{number_cause}
@@ -23,3 +24,9 @@ returns-in-Err-place-clause-answer c = λ ssrc roc window indices s.
     ∙ ap (λ x. let r : Result ℕ DropCause = Err x in r) (sym c.of_place.ensures) in
     unnumbered c.args.keys.now c.in-Ok.ensures.chosen.0 (placed Rtp roc window indices c.args.self.head.number) (number_cause c.of_place.result)
     c.in-Ok.ensures.chosen.2 is
+
+pub returns-in-Ok-place-clause-kept : goal.returns-in-Ok-place-clause-kept
+returns-in-Ok-place-clause-kept c = grind (arith, common_steps)
+
+pub returns-in-Ok-place-clause-answer : goal.returns-in-Ok-place-clause-answer
+returns-in-Ok-place-clause-answer c = grind (arith, common_steps)
