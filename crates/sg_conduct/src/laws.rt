@@ -100,7 +100,7 @@ pub fn offers_are_told_as_they_came()
     sg_gateway::signals_are_taken();
 }
 
-/// An answer to an open offer is refused only for a cause that its text, its message or the ring shows, by the keys that this
+/// An answer to an open offer is refused by the first cause that its text, its message or the ring shows, by the keys that this
 /// answer would bring, and nothing else is told. No packet, pre-shared key or `manual` line closes an open offer, no key
 /// comes into the ring without a session under it, and no message is noted without its offer. Ticks alone move the moment,
 /// `psk` lines alone change the pre-shared keys, `manual` lines alone mark calls; a call whose first offer is rejected ends,
