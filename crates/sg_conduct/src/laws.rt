@@ -30,7 +30,8 @@ pub fn what_is_opened_was_sealed()
     offers_fit_their_calls();
 }
 
-/// Each datagram is opened or sealed once, and told as put out; or it is told as dropped, and changes nothing.
+/// Each datagram is opened or sealed once, and told as put out, sealed under the first live key of its session; or it is told as
+/// dropped, and changes nothing.
 pub fn datagrams_are_settled()
     ensures { (events : List Event) → EachDatagramIsSettled events }
 {}
