@@ -46,7 +46,7 @@ use Rattle.sg_sdp.specs.declared.sdp.Sdp as sdp
 use Rattle.sg_session.specs.Ring.{Installed, derived, first_clash_by, install, key_of, keys_clash, same_secret, with_key_by, with_keys_by}
 use Rattle.sg_session.specs.Stages.{after_ok, stop_if}
 use Rattle.sg_gateway.proofs.Common.{AgreedKey, Call, CallId, CryptoLine, CsEntry, IsRefusal, Master, Medium, Message, Opening, Owner, Refusal, Sealing, Side, World}
-use Rattle.sg_gateway.proofs.Common.{active_count, actives_after, after_ok_is, any_cases, any_here, any_none, any_there, any_weaker, call_of, described_is}
+use Rattle.sg_gateway.proofs.Common.{active_count, actives_after, after_ok_is, any_cases, any_none, any_weaker, call_of}
 use Rattle.sg_gateway.proofs.Common.{description_of, each_kept, if_kept, is_active, none_some, of_cs, of_message, of_psk, of_sdes, ok_is, or_refusal}
 use Rattle.sg_gateway.proofs.Common.{Event, Turn, empty, other_side, same_octets, same_octets_true, some_is, step, stop_if_is, turn_of}
 use Rattle.sg_gateway.proofs.Agreements.{Agreements, answer_media}
