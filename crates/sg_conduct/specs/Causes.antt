@@ -203,9 +203,10 @@ KeysComeWithUsers t = (new : List Installed) × ((after_turn t).books.ring ≡ t
 
 -- ---- the cause
 
--- The first of these, and no other: it is no description, or lacks an address; no medium takes part; there aren't as many as were
--- offered; the first medium that stays names no line; there is no response, or none that is read, or is one to the message; then the
--- ring. Never by `Cs`: the crypto sessions and the policy of the gateway's own message serve (RFC 3830, 6.1.1 and 6.10.1).
+-- The first of these that holds, and no other: it is no description, or lacks an address; no medium takes part; there aren't as many
+-- as were offered; a medium that stays names no line, the first such; or the response isn't there, isn't read, is of another kind, or
+-- isn't one to the message; then the ring. Never by `Cs`: the crypto sessions and the policy of the gateway's own message serve
+-- (RFC 3830, 6.1.1 and 6.10.1).
 abbrev pub Shows : List Installed → (List Master → Type 0) → Offer → List ℕ → Refusal → Type 0
 Shows ring Brings o text (causes.Sdp line fault) = ShowsFault (other_side o.side) text line fault
 Shows ring Brings o text causes.NoMedia = (s : Sdp) × (description_of text ≡ Ok s) × AllByRecursion (λ m. ¬ TakesPart (other_side o.side) m) s.media
