@@ -1,6 +1,6 @@
 -- What refuses an answer shows in its text, its message or the ring.
 use Rattle.std.proofs.Common.{◌≡◌, ◌⊎◌, inl, inr, ℕ, suc, ◌+◌, ◌*◌, ◌≤◌, Bool, true, false, cond, not, ◌&&◌, eqb, ltb, ltb-true, List, [], ◌∷◌, ◌++◌, length, map, codes, Option, Some, None, Result, Ok, Err, refl, sym, ap, ◌∙◌, subst, arith, append_assoc, append-nil, length-append}
-use Rattle.std.proofs.lemmas.Bool.{and_from, eq-eqb, eqb-false, eqb-true, false≢true, not-false, not-true, or_parts}
+use Rattle.std.proofs.lemmas.Bool.{and_from, and_parts, eq-eqb, eqb-false, eqb-true, false≢true, not-false, not-true, or_parts}
 use Rattle.std.proofs.lemmas.List.{map-append}
 use Rattle.std.proofs.lemmas.List.Folds.{Any-from_list_any}
 use Rattle.std.proofs.lemmas.List.Elements.{recursion_from_All}
@@ -8,7 +8,10 @@ use Rattle.std.proofs.lemmas.Slice.Eq.{bytes_eq-Decides}
 use Rattle.std.specs.Prelude.{◌||◌}
 use Rattle.std.specs.List.{AllByRecursion, Any, filter_map, find, list_any}
 use Rattle.std.specs.Option.{is_none}
-use Rattle.sg_agreement.specs.Answers.{AgreedAnswer, agreed_answer, answered_by}
+use Rattle.sg_agreement.proofs.KeyedSound.{sdes_is}
+use Rattle.sg_agreement.proofs.MessagesSound.{psk_is}
+use Rattle.sg_agreement.proofs.TextLines.{bind_is}
+use Rattle.sg_agreement.specs.Answers.{Answered as Keyings, AgreedAnswer, agreed_answer, answered_by}
 use Rattle.sg_agreement.specs.Attributes.{behind, crypto_values, first_of, mikey_octets, mikey_value}
 use Rattle.sg_agreement.specs.Described.{described, is_other_count, of_text, unaddressed, with_addresses}
 use Rattle.sg_agreement.specs.Generations.{generation_of, keys_from, owned, owner_at}
@@ -17,6 +20,8 @@ use Rattle.sg_agreement.specs.LineAnswers.{keyed_by_own_lines, keyed_by_peer_lin
 use Rattle.sg_agreement.specs.MessageAnswers.{keyed_as_initiator, keyed_as_responder, keyed_by_message, over_active, own_streams, streams_answered}
 use Rattle.sg_agreement.specs.Messages.{message_in}
 use Rattle.sg_agreement.specs.Sound.{IsSoundMedium}
+use Rattle.sg_agreement.specs.Keyed.{Keyed}
+use Rattle.sg_base.proofs.SameOctets.{same_octets_is}
 use Rattle.sg_base.specs.SuiteNames.{suite_name}
 use Rattle.sg_base.specs.declared.faults.MikeyFault.TheVariants.{DataType}
 use Rattle.sg_base.specs.declared.faults.PskFault.{PskFault}
@@ -41,7 +46,7 @@ use Rattle.sg_sdp.specs.declared.sdp.Sdp as sdp
 use Rattle.sg_session.specs.Ring.{Installed, derived, first_clash_by, install, key_of, keys_clash, same_secret, with_key_by, with_keys_by}
 use Rattle.sg_session.specs.Stages.{after_ok, stop_if}
 use Rattle.sg_gateway.proofs.Common.{AgreedKey, Call, CallId, CryptoLine, CsEntry, IsRefusal, Master, Medium, Message, Opening, Owner, Refusal, Sealing, Side, World}
-use Rattle.sg_gateway.proofs.Common.{active_count, actives_after, after_ok_is, any_cases, any_here, any_none, any_there, any_weaker, call_of, described_is}
+use Rattle.sg_gateway.proofs.Common.{active_count, actives_after, after_ok_is, any_cases, any_none, any_weaker, call_of}
 use Rattle.sg_gateway.proofs.Common.{description_of, each_kept, if_kept, is_active, none_some, of_cs, of_message, of_psk, of_sdes, ok_is, or_refusal}
 use Rattle.sg_gateway.proofs.Common.{Event, Turn, empty, other_side, same_octets, same_octets_true, some_is, step, stop_if_is, turn_of}
 use Rattle.sg_gateway.proofs.Agreements.{Agreements, answer_media}
@@ -56,12 +61,14 @@ use Rattle.sg_gateway.specs.Signals.{Answer, Answered, answer_to, answered as an
 use Rattle.sg_conduct.proofs.Acceptable.{octets_are}
 use Rattle.sg_conduct.proofs.Brought.{OpenedBy, WereOpened, event_opened, keys_brought, was_offered, was_opened}
 use Rattle.sg_conduct.proofs.FirstLines.{first_value}
+use Rattle.sg_conduct.proofs.Firsts.{suite_is}
 use Rattle.sg_conduct.proofs.Manual.{apart_is, secret}
 use Rattle.sg_conduct.proofs.Offers.{active_takes}
 use Rattle.sg_conduct.proofs.Present.{takes_active}
 use Rattle.sg_conduct.proofs.Serving.{Serves, offer_serves}
 use Rattle.sg_conduct.specs.Brought.{AreBrought}
-use Rattle.sg_conduct.specs.Causes.{ComeIntoUse, IsNotTo, IsOfNone, IsFull, IsReused, IsReusedAt, IsToRespond, LacksAddress, RefusedAnswerShowsCause, Shows, ShowsFault, ShowsNoLine}
+use Rattle.sg_conduct.specs.Causes.{ComeIntoUse, FitsOffer, HasResponseCode, HasTag, IsFull, IsKeyed, IsKeyedBy, IsNotTo, IsOfAlgorithm, IsOfBundle, IsOfNone, IsReused, IsReusedAt, IsToRespond, LacksAddress, LacksLine}
+use Rattle.sg_conduct.specs.Causes.{NameLines, NamesLine, RefusedAnswerShowsCause, Shows, ShowsFault, ShowsNoLine, Stays}
 use Rattle.sg_conduct.specs.Manual.{AreApart, IsApartInItself}
 use Rattle.sg_conduct.specs.Offers.{Describes}
 use Rattle.sg_conduct.specs.Present.{TakesPart}
@@ -191,82 +198,48 @@ text_counts side count text s e =
 
 description_shows : (ring : List Installed) (Brings : List Master → Type 0) (o : Offer) (text : List ℕ) (cause : Refusal) → described (other_side o.side) (Some (length o.description.media)) text ≡ Err cause → Shows ring Brings o text cause
 description_shows ring Brings o text = text_refused (other_side o.side) (Some (length o.description.media)) text (Shows ring Brings o text) (λ line fault is. is) (λ s read none. (s, read, none))
-    (λ s describes n is other. (s, describes.read, (λ same. other (same ∙ some_is (length o.description.media) n is))))
+    (λ s describes n is other. (s, describes, (λ same. other (same ∙ some_is (length o.description.media) n is))))
+
+fits_offer : (o : Offer) (text : List ℕ) (s : sdp.Sdp) → described (other_side o.side) (Some (length o.description.media)) text ≡ Ok s → FitsOffer o text s
+fits_offer o text s e = (
+  text_describes (other_side o.side) (Some (length o.description.media)) text s e,
+  eqb-true (length s.media) (length o.description.media) (not-false (eqb (length s.media) (length o.description.media)) (text_counts (other_side o.side) (Some (length o.description.media)) text s e)),
+)
 
 -- ---- each medium
 
-record Stops {X Y : Type 0} (value : ℕ → X → descriptions.Medium → Result Y Refusal) (side : Side) (k : ℕ) (xs : List (Option X)) (ns : List descriptions.Medium) (c : Refusal) : Type 0 where
-  x : X
-  n : descriptions.Medium
-  xs_before : List (Option X)
-  xs_behind : List (Option X)
-  ns_before : List descriptions.Medium
-  ns_behind : List descriptions.Medium
-  of_xs : xs ≡ xs_before ++ Some x ∷ xs_behind
-  of_ns : ns ≡ ns_before ++ n ∷ ns_behind
-  aside : length xs_before ≡ length ns_before
-  takes : TakesPart (other_side side) n
-  number : ℕ
-  place : number ≡ k + length xs_before
-  gives : value number x n ≡ Err c
+kept_err : {X Y : Type 0} (b : Bool) (x : X) (f : X → Result Y Refusal) (c : Refusal) → if_kept b (Some x) f ≡ Err c → (b ≡ true) × (f x ≡ Err c)
+kept_err false x f c e = absurd (ok_err _ c e)
+kept_err true x f c e = elim (after_ok_err (f x) _ c e) [
+  | inl fails ↦ (refl, fails)
+  | inr y ↦ absurd (ok_err _ c y.2)
+]
 
-module _ {X Y : Type 0} (value : ℕ → X → descriptions.Medium → Result Y Refusal) (side : Side) where
-  next : (k : ℕ) (x : Option X) (xs : List (Option X)) (n : descriptions.Medium) (ns : List descriptions.Medium) (c : Refusal) → Stops value side (k + 1) xs ns c → Stops value side k (x ∷ xs) (n ∷ ns) c
-  next k x xs n ns c s = record {
-    x = s.x;
-    n = s.n;
-    xs_before = x ∷ s.xs_before;
-    xs_behind = s.xs_behind;
-    ns_before = n ∷ s.ns_before;
-    ns_behind = s.ns_behind;
-    of_xs = ap (λ (l : List (Option X)). x ∷ l) s.of_xs;
-    of_ns = ap (λ (l : List descriptions.Medium). n ∷ l) s.of_ns;
-    aside = (let e = s.aside in omega (arith, e));
-    takes = s.takes;
-    number = s.number;
-    place = (let e = s.place in omega (arith, e));
-    gives = s.gives;
-  }
+kept_ok : {X Y : Type 0} (b : Bool) (x : X) (f : X → Result Y Refusal) (y : Option Y) → if_kept b (Some x) f ≡ Ok y → b ≡ true → (z : Y) × (f x ≡ Ok z)
+kept_ok false x f y e is = absurd (false≢true is)
+kept_ok true x f y e is = let a = after_ok_is (f x) _ y e in (a.0, a.1)
 
-  here : (k : ℕ) (x : X) (xs : List (Option X)) (n : descriptions.Medium) (ns : List descriptions.Medium) (c : Refusal) → TakesPart (other_side side) n → value k x n ≡ Err c → Stops value side k (Some x ∷ xs) (n ∷ ns) c
-  here k x xs n ns c takes gives = record {
-    x = x;
-    n = n;
-    xs_before = [];
-    xs_behind = xs;
-    ns_before = [];
-    ns_behind = ns;
-    of_xs = refl;
-    of_ns = refl;
-    aside = refl;
-    takes = takes;
-    number = k;
-    place = omega arith;
-    gives = gives;
-  }
+none_kept : {X Y : Type 0} (b : Bool) (f : X → Result Y Refusal) (c : Refusal) → if_kept b None f ≡ Err c → ⊥
+none_kept false f c e = ok_err _ c e
+none_kept true f c e = ok_err _ c e
 
-  one_stops : (k : ℕ) (m : descriptions.Medium) (x : Option X) (xs : List (Option X)) (n : descriptions.Medium) (ns : List descriptions.Medium) (c : Refusal)
-      → (a b : Bool) → is_active (other_side side) n ≡ b → if_kept (a && b) x (λ x. value k x n) ≡ Err c → Stops value side k (x ∷ xs) (n ∷ ns) c
-  one_stops k m x xs n ns c false b is e = absurd (ok_err _ c e)
-  one_stops k m x xs n ns c true false is e = absurd (ok_err _ c e)
-  one_stops k m None xs n ns c true true is e = absurd (ok_err _ c e)
-  one_stops k m (Some x) xs n ns c true true is e = elim (after_ok_err (value k x n) _ c e) [
-    | inl fails ↦ here k x xs n ns c (active_takes (other_side side) n is) fails
-    | inr y ↦ absurd (ok_err _ c y.2)
+-- where no value is refused, none is
+module _ {X Y : Type 0} (value : ℕ → X → descriptions.Medium → Result Y Refusal) (never : (k : ℕ) (x : X) (n : descriptions.Medium) (c : Refusal) → value k x n ≡ Err c → ⊥) where
+  one_kept : (k : ℕ) (n : descriptions.Medium) (b : Bool) (x : Option X) (c : Refusal) → if_kept b x (λ x. value k x n) ≡ Err c → ⊥
+  one_kept k n b None c e = none_kept b (λ x. value k x n) c e
+  one_kept k n b (Some x) c e = never k x n c (kept_err b x (λ x. value k x n) c e).1
+
+  all_kept : (k : ℕ) (active : List Bool) (xs : List (Option X)) (ns : List descriptions.Medium) (c : Refusal) → each_kept value k active xs ns ≡ Err c → ⊥
+  all_kept k [] xs ns c e = ok_err _ c e
+  all_kept k (b ∷ active) [] ns c e = ok_err _ c e
+  all_kept k (b ∷ active) (x ∷ xs) [] c e = ok_err _ c e
+  all_kept k (b ∷ active) (x ∷ xs) (n ∷ ns) c e = elim (after_ok_err (if_kept b x (λ x. value k x n)) _ c e) [
+    | inl fails ↦ one_kept k n b x c fails
+    | inr y ↦ elim (after_ok_err (each_kept value (k + 1) active xs ns) _ c y.2) [
+      | inl later ↦ all_kept (k + 1) active xs ns c later
+      | inr z ↦ ok_err _ c z.2
+    ]
   ]
-
-  kept_stops : (k : ℕ) (ms ns : List descriptions.Medium) (xs : List (Option X)) (c : Refusal) → each_kept value k (actives_after side ms ns) xs ns ≡ Err c → Stops value side k xs ns c
-  kept_stops k [] ns xs c e = absurd (ok_err _ c e)
-  kept_stops k (m ∷ ms) [] xs c e = absurd (ok_err _ c e)
-  kept_stops k (m ∷ ms) (n ∷ ns) [] c e = absurd (ok_err _ c e)
-  kept_stops k (m ∷ ms) (n ∷ ns) (x ∷ xs) c e =
-      elim (after_ok_err (if_kept (is_active side m && is_active (other_side side) n) x (λ x. value k x n)) _ c e) [
-        | inl fails ↦ one_stops k m x xs n ns c (is_active side m) (is_active (other_side side) n) refl fails
-        | inr y ↦ elim (after_ok_err (each_kept value (k + 1) (actives_after side ms ns) xs ns) _ c y.2) [
-          | inl later ↦ next k x xs n ns c (kept_stops (k + 1) ms ns xs c later)
-          | inr z ↦ absurd (ok_err _ c z.2)
-        ]
-      ]
 
 -- ---- crypto lines
 
@@ -283,16 +256,13 @@ none_with tag (l ∷ ls) e = go (none_with tag ls) (eqb l.tag tag) refl e
     go rest true is e = absurd cc
     go rest false is e = (eqb-false l.tag tag is, rest e)
 
-one_with : (tag : ℕ) (offered : List CryptoLine) (x : CryptoLine) → find (λ l. eqb l.tag tag) offered ≡ Some x → Any (λ (y : CryptoLine). (y.tag ≡ tag) × (y ≡ x)) offered
-one_with tag [] x e = absurd cc
-one_with tag (l ∷ ls) x e = go (one_with tag ls x) (eqb l.tag tag) refl e
+first_with : (tag : ℕ) (offered : List CryptoLine) (x : CryptoLine) → find (λ l. eqb l.tag tag) offered ≡ Some x → HasTag offered tag x
+first_with tag [] x e = absurd cc
+first_with tag (l ∷ ls) x e = go (first_with tag ls x) (eqb l.tag tag) refl e
   where
-    Is : CryptoLine → Type 0
-    Is y = (y.tag ≡ tag) × (y ≡ x)
-
-    go : (find (λ l. eqb l.tag tag) ls ≡ Some x → Any Is ls) → (b : Bool) → eqb l.tag tag ≡ b → cond b (Some l) (find (λ l. eqb l.tag tag) ls) ≡ Some x → Any Is (l ∷ ls)
-    go rest true is e = any_here Is l ls (eqb-true l.tag tag is, some_is l x e)
-    go rest false is e = any_there Is l ls (rest e)
+    go : (find (λ l. eqb l.tag tag) ls ≡ Some x → HasTag ls tag x) → (b : Bool) → eqb l.tag tag ≡ b → cond b (Some l) (find (λ l. eqb l.tag tag) ls) ≡ Some x → HasTag (l ∷ ls) tag x
+    go rest true is e = subst (HasTag (l ∷ ls) tag) (some_is l x e) ([], ls, refl, eqb-true l.tag tag is, tt)
+    go rest false is e = let r = rest e in (l ∷ r.0, r.1, ap (λ (ls : List CryptoLine). l ∷ ls) r.2, r.3, (eqb-false l.tag tag is, r.4))
 
 other_suite : (x : CryptoLine) (peer : CryptoLine) → same_suite x.suite peer.suite ≡ false → ¬ x.suite ≡ peer.suite
 other_suite x peer other same = false≢true (sym other ∙ (bytes_eq-Decides (suite_name x.suite) (suite_name peer.suite)).1 (ap suite_name same))
@@ -300,18 +270,7 @@ other_suite x peer other same = false≢true (sym other ∙ (bytes_eq-Decides (s
 suite_shows : (offered : List CryptoLine) (own peer : CryptoLine) (b : Bool) (c : SdesFault) → same_suite own.suite peer.suite ≡ b → find (λ l. eqb l.tag peer.tag) offered ≡ Some own
     → (let r : Result (CryptoLine × CryptoLine) SdesFault = cond b (Ok (own, peer)) (Err Suite) in r ≡ Err c) → IsOfNone offered peer c
 suite_shows offered own peer true c is at e = absurd cc
-suite_shows offered own peer false c is at e =
-    inr (sym (err_is {X = CryptoLine × CryptoLine} Suite c e), any_mapped offered (one_with peer.tag offered own at))
-  where
-    Has : CryptoLine → Type 0
-    Has x = (x.tag ≡ peer.tag) × (¬ x.suite ≡ peer.suite)
-
-    any_mapped : (ls : List CryptoLine) → Any (λ (y : CryptoLine). (y.tag ≡ peer.tag) × (y ≡ own)) ls → Any Has ls
-    any_mapped [] any = absurd (any_none _ any)
-    any_mapped (l ∷ ls) any = elim (any_cases (λ (y : CryptoLine). (y.tag ≡ peer.tag) × (y ≡ own)) l ls any) [
-      | inl this ↦ any_here Has l ls (this.0, (λ same. other_suite own peer is (ap (λ (x : CryptoLine). x.suite) (sym this.1) ∙ same)))
-      | inr later ↦ any_there Has l ls (any_mapped ls later)
-    ]
+suite_shows offered own peer false c is at e = inr (sym (err_is {X = CryptoLine × CryptoLine} Suite c e), (own, first_with peer.tag offered own at, other_suite own peer is))
 
 tag_shows : (offered : List CryptoLine) (peer : CryptoLine) (o : Option CryptoLine) (c : SdesFault) → find (λ l. eqb l.tag peer.tag) offered ≡ o
     → lines.◌>>=◌ (lines.or_fault Tag o) (λ own. let r : Result (CryptoLine × CryptoLine) SdesFault = cond (same_suite own.suite peer.suite) (Ok (own, peer)) (Err Suite) in r) ≡ Err c → IsOfNone offered peer c
@@ -331,6 +290,33 @@ line_shows offered ls c e = elim (first_value ls (first_of (filter_map (behind (
   | inl none ↦ inl (none.0, sym (err_is {X = CryptoLine × CryptoLine} NoLine c (ap (lines_matched offered) (sym none.1) ∙ e)))
   | inr x ↦ inr (x.0, x.1, value_shows offered x.0 c (ap (lines_matched offered) (sym x.2) ∙ e))
 ]
+
+tag_named : (offered : List CryptoLine) (peer : CryptoLine) (o : Option CryptoLine) (p : CryptoLine × CryptoLine) → find (λ l. eqb l.tag peer.tag) offered ≡ o
+    → lines.◌>>=◌ (lines.or_fault Tag o) (λ own. let r : Result (CryptoLine × CryptoLine) SdesFault = cond (same_suite own.suite peer.suite) (Ok (own, peer)) (Err Suite) in r) ≡ Ok p
+    → (x : CryptoLine) × HasTag offered peer.tag x × (x.suite ≡ peer.suite)
+tag_named offered peer None p at e = absurd cc
+tag_named offered peer (Some own) p at e = (own, first_with peer.tag offered own at, go (same_suite own.suite peer.suite) refl e)
+  where
+    go : (b : Bool) → same_suite own.suite peer.suite ≡ b → (let r : Result (CryptoLine × CryptoLine) SdesFault = cond b (Ok (own, peer)) (Err Suite) in r ≡ Ok p) → own.suite ≡ peer.suite
+    go true is e = suite_is own.suite peer.suite is
+    go false is e = absurd cc
+
+value_named : (offered : List CryptoLine) (value : List ℕ) (p : CryptoLine × CryptoLine) → matched offered value ≡ Ok p → (l x : CryptoLine) × (crypto_of value ≡ Ok l) × HasTag offered l.tag x × (x.suite ≡ l.suite)
+unfolding matched
+value_named offered value p e =
+    let a = bind_is (crypto_of value) _ p e in
+    let b = tag_named offered a.0 (find (λ l. eqb l.tag a.0.tag) offered) p refl a.2 in
+    (a.0, b.0, a.1, b.1, b.2)
+
+line_named : (offered : List CryptoLine) (ls : List (List ℕ)) (p : CryptoLine × CryptoLine) → lines_matched offered (first_of (crypto_values ls)) ≡ Ok p → NamesLine offered ls
+unfolding crypto_values
+line_named offered ls p e = elim (first_value ls (first_of (filter_map (behind (codes "a=crypto:")) ls)) refl) [
+  | inl none ↦ absurd (no_line (ap (lines_matched offered) (sym none.1) ∙ e))
+  | inr x ↦ (x.0, x.1, value_named offered x.0 p (ap (lines_matched offered) (sym x.2) ∙ e))
+]
+  where
+    no_line : lines_matched offered None ≡ Ok p → ⊥
+    no_line e = absurd cc
 
 pub sdes_err : {X : Type 0} (k : ℕ) (r : Result X SdesFault) (c : Refusal) → of_sdes k r ≡ Err c → (fault : SdesFault) × (r ≡ Err fault) × (causes.Sdes k fault ≡ c)
 sdes_err k (Ok x) c e = absurd (ok_err x c e)
@@ -356,24 +342,111 @@ pub octets_ok : {X : Type 0} (cause : Refusal) (o : Option X) (x : X) → or_ref
 octets_ok cause None x e = absurd cc
 octets_ok cause (Some y) x e = let same : y ≡ x = cc in ap Some same
 
+-- ---- the media's lines
+
+abbrev Lacks : Side → ℕ → List descriptions.Medium → List (Option (List CryptoLine)) → List descriptions.Medium → Refusal → Type 0
+Lacks side k ms ls ns c = (medium : ℕ) × (fault : SdesFault) × (causes.Sdes medium fault ≡ c) × LacksLine side k ms ls ns medium fault
+
+module _ (side : Side) where
+  this_lacks : (k : ℕ) (m : descriptions.Medium) (offered : List CryptoLine) (n : descriptions.Medium) (c : Refusal) → if_kept (is_active side m && is_active (other_side side) n) (Some offered) (λ x. keyed_by_own_lines k x n) ≡ Err c
+      → (fault : SdesFault) × (causes.Sdes k fault ≡ c) × Stays side m n × ShowsNoLine offered n.lines fault
+  this_lacks k m offered n c e =
+      let b = kept_err (is_active side m && is_active (other_side side) n) offered (λ x. keyed_by_own_lines k x n) c e in
+      let p = and_parts (is_active side m) (is_active (other_side side) n) b.0 in
+      elim (after_ok_err (of_sdes k (lines_matched offered (first_of (crypto_values n.lines)))) _ c b.1) [
+        | inl fails ↦
+            let f = sdes_err k (lines_matched offered (first_of (crypto_values n.lines))) c fails in
+            (f.0, f.2, (active_takes side m p.0, active_takes (other_side side) n p.1), line_shows offered n.lines f.0 f.1)
+        | inr x ↦ absurd (ok_err _ c x.2)
+      ]
+
+  this_names : (k : ℕ) (m : descriptions.Medium) (offered : List CryptoLine) (n : descriptions.Medium) (y : Option Keyed) → if_kept (is_active side m && is_active (other_side side) n) (Some offered) (λ x. keyed_by_own_lines k x n) ≡ Ok y
+      → Stays side m n → NamesLine offered n.lines
+  this_names k m offered n y e stays =
+      let b = kept_ok (is_active side m && is_active (other_side side) n) offered (λ x. keyed_by_own_lines k x n) y e (and_from _ _ (takes_active side m stays.0) (takes_active (other_side side) n stays.1)) in
+      let a = after_ok_is (of_sdes k (lines_matched offered (first_of (crypto_values n.lines)))) _ b.0 b.1 in
+      line_named offered n.lines a.0 (sdes_is k (lines_matched offered (first_of (crypto_values n.lines))) a.0 a.1)
+
+  lacks_line : (k : ℕ) (ms : List descriptions.Medium) (ls : List (Option (List CryptoLine))) (ns : List descriptions.Medium) (c : Refusal) → each_kept keyed_by_own_lines k (actives_after side ms ns) ls ns ≡ Err c → Lacks side k ms ls ns c
+  lacks_line k [] ls ns c e = absurd (ok_err _ c e)
+  lacks_line k (m ∷ ms) ls [] c e = absurd (ok_err _ c e)
+  lacks_line k (m ∷ ms) [] (n ∷ ns) c e = absurd (ok_err _ c e)
+  lacks_line k (m ∷ ms) (None ∷ ls) (n ∷ ns) c e =
+      elim (after_ok_err (if_kept (is_active side m && is_active (other_side side) n) None (λ x. keyed_by_own_lines k x n)) _ c e) [
+        | inl fails ↦ absurd (none_kept _ (λ x. keyed_by_own_lines k x n) c fails)
+        | inr y ↦ elim (after_ok_err (each_kept keyed_by_own_lines (k + 1) (actives_after side ms ns) ls ns) _ c y.2) [
+          | inl later ↦ lacks_line (k + 1) ms ls ns c later
+          | inr z ↦ absurd (ok_err _ c z.2)
+        ]
+      ]
+  lacks_line k (m ∷ ms) (Some offered ∷ ls) (n ∷ ns) c e =
+      elim (after_ok_err (if_kept (is_active side m && is_active (other_side side) n) (Some offered) (λ x. keyed_by_own_lines k x n)) _ c e) [
+        | inl fails ↦ let t = this_lacks k m offered n c fails in (k, t.0, t.1, inl (t.2, refl, t.3))
+        | inr y ↦ elim (after_ok_err (each_kept keyed_by_own_lines (k + 1) (actives_after side ms ns) ls ns) _ c y.2) [
+          | inl later ↦ let r = lacks_line (k + 1) ms ls ns c later in (r.0, r.1, r.2, inr (this_names k m offered n y.0 y.1, r.3))
+          | inr z ↦ absurd (ok_err _ c z.2)
+        ]
+      ]
+
+  name_lines : (k : ℕ) (ms : List descriptions.Medium) (ls : List (Option (List CryptoLine))) (ns : List descriptions.Medium) (ys : List (Option Keyed)) → each_kept keyed_by_own_lines k (actives_after side ms ns) ls ns ≡ Ok ys → NameLines side ms ls ns
+  name_lines k [] ls ns ys e = tt
+  name_lines k (m ∷ ms) [] ns ys e = tt
+  name_lines k (m ∷ ms) (None ∷ ls) [] ys e = tt
+  name_lines k (m ∷ ms) (Some offered ∷ ls) [] ys e = tt
+  name_lines k (m ∷ ms) (x ∷ ls) (n ∷ ns) ys e =
+      let a = after_ok_is (if_kept (is_active side m && is_active (other_side side) n) x (λ x. keyed_by_own_lines k x n)) _ ys e in
+      let b = after_ok_is (each_kept keyed_by_own_lines (k + 1) (actives_after side ms ns) ls ns) _ ys a.2 in
+      go x a.0 a.1 (name_lines (k + 1) ms ls ns b.0 b.1)
+    where
+      go : (x : Option (List CryptoLine)) (y : Option Keyed) → if_kept (is_active side m && is_active (other_side side) n) x (λ x. keyed_by_own_lines k x n) ≡ Ok y → NameLines side ms ls ns → NameLines side (m ∷ ms) (x ∷ ls) (n ∷ ns)
+      go None y e rest = rest
+      go (Some offered) y e rest = (this_names k m offered n y e, rest)
+
 -- ---- a response
 
 three : (a b c : Bool) (r : List CsEntry) (d : PskFault) → cond (not a) (Err Algorithm) (cond (not b) (Err BadMac) (cond (not c) (Err OtherSession) (Ok r))) ≡ Err d
-    → ((a ≡ false) × (d ≡ Algorithm)) ⊎ (((b ≡ false) × (d ≡ BadMac)) ⊎ ((c ≡ false) × (d ≡ OtherSession)))
-three false b c r d e = inl (refl, sym (err_is {X = List CsEntry} Algorithm d e))
-three true false c r d e = inr (inl (refl, sym (err_is {X = List CsEntry} BadMac d e)))
-three true true false r d e = inr (inr (refl, sym (err_is {X = List CsEntry} OtherSession d e)))
+    → ((d ≡ Algorithm) × (a ≡ false)) ⊎ (((d ≡ BadMac) × (a ≡ true) × (b ≡ false)) ⊎ ((d ≡ OtherSession) × (a ≡ true) × (b ≡ true) × (c ≡ false)))
+three false b c r d e = inl (sym (err_is {X = List CsEntry} Algorithm d e), refl)
+three true false c r d e = inr (inl (sym (err_is {X = List CsEntry} BadMac d e), refl, refl))
+three true true false r d e = inr (inr (sym (err_is {X = List CsEntry} OtherSession d e), refl, refl, refl))
 three true true true r d e = absurd (ok_err r d e)
 
-response_shows : (octets : List ℕ) (m : Message) (sent : Sent) (d : PskFault) → response_of octets m sent ≡ Err d → IsNotTo sent octets m d
-unfolding response_of response_fits mac_of
-response_shows octets m sent d e = elim (three (eqb (closing_in m.payloads).mac 1) (response_fits octets m sent) (eqb m.csb sent.csb && eqb (length m.map) (length sent.map)) m.map d e) [
-  | inl a ↦ inl (a.1, eqb-false (closing_in m.payloads).mac 1 a.0)
-  | inr more ↦ elim more [
-    | inl b ↦ inr (inl (b.1, (λ same. false≢true (sym b.0 ∙ same_octets_true (closing_in m.payloads).tag _ same))))
-    | inr c ↦ inr (inr (c.1, (λ same. false≢true (sym c.0 ∙ and_from (eqb m.csb sent.csb) _ (eq-eqb m.csb sent.csb same.0) (eq-eqb (length m.map) (length sent.map) same.1)))))
+all_three : (a b c : Bool) (r s : List CsEntry) → (let x : Result (List CsEntry) PskFault = cond (not a) (Err Algorithm) (cond (not b) (Err BadMac) (cond (not c) (Err OtherSession) (Ok r))) in x ≡ Ok s) → (a ≡ true) × (b ≡ true) × (c ≡ true)
+all_three false b c r s e = absurd cc
+all_three true false c r s e = absurd cc
+all_three true true false r s e = absurd cc
+all_three true true true r s e = (refl, refl, refl)
+
+module _ (octets : List ℕ) (m : Message) (sent : Sent) where
+  coded : response_fits octets m sent ≡ true → HasResponseCode sent octets m
+  unfolding response_fits mac_of
+  coded e = same_octets_is (closing_in m.payloads).tag _ e
+
+  not_coded : response_fits octets m sent ≡ false → ¬ HasResponseCode sent octets m
+  unfolding response_fits mac_of
+  not_coded e same = false≢true (sym e ∙ same_octets_true (closing_in m.payloads).tag _ same)
+
+  response_shows : (d : PskFault) → response_of octets m sent ≡ Err d → IsNotTo sent octets m d
+  unfolding response_of
+  response_shows d e = elim (three (eqb (closing_in m.payloads).mac 1) (response_fits octets m sent) (eqb m.csb sent.csb && eqb (length m.map) (length sent.map)) m.map d e) [
+    | inl a ↦ inl (a.0, eqb-false (closing_in m.payloads).mac 1 a.1)
+    | inr more ↦ elim more [
+      | inl b ↦ inr (inl (b.0, eqb-true (closing_in m.payloads).mac 1 b.1, not_coded b.2))
+      | inr c ↦ inr (inr (
+        c.0,
+        eqb-true (closing_in m.payloads).mac 1 c.1,
+        coded c.2,
+        (λ same. false≢true (sym c.3 ∙ and_from (eqb m.csb sent.csb) _ (eq-eqb m.csb sent.csb same.0) (eq-eqb (length m.map) (length sent.map) same.1))),
+      ))
+    ]
   ]
-]
+
+  response_is : (entries : List CsEntry) → response_of octets m sent ≡ Ok entries → IsOfAlgorithm m × HasResponseCode sent octets m × IsOfBundle sent m
+  unfolding response_of
+  response_is entries e =
+      let a = all_three (eqb (closing_in m.payloads).mac 1) (response_fits octets m sent) (eqb m.csb sent.csb && eqb (length m.map) (length sent.map)) m.map entries e in
+      let p = and_parts (eqb m.csb sent.csb) (eqb (length m.map) (length sent.map)) a.2 in
+      (eqb-true (closing_in m.payloads).mac 1 a.0, coded a.1, (eqb-true m.csb sent.csb p.0, eqb-true (length m.map) (length sent.map) p.1))
 
 record IsMessageIn (value : Option (List ℕ)) (octets : List ℕ) (m : Message) : Type 0 where
   octets_are : mikey_octets value ≡ Some octets
@@ -391,39 +464,13 @@ message_in_is value r e =
 
 -- ---- how the answer is keyed
 
-module _ (ring : List Installed) (Brings : List Master → Type 0) (o : Offer) (serves : Serves o) (text : List ℕ) (s : sdp.Sdp) (read : description_of text ≡ Ok s) where
+module _ (ring : List Installed) (Brings : List Master → Type 0) (o : Offer) (serves : Serves o) (text : List ℕ) (s : sdp.Sdp) (fits : FitsOffer o text s) where
   abbrev IsCause : Refusal → Type 0
   IsCause cause = Shows ring Brings o text cause
 
-  own_lines_show : (ls : List (Option (List CryptoLine))) → o.keying ≡ OwnLines ls → (c : Refusal) → Stops keyed_by_own_lines o.side 0 ls s.media c → IsCause c
-  own_lines_show ls keying c at = elim (after_ok_err (of_sdes at.number (lines_matched at.x (first_of (crypto_values at.n.lines)))) _ c at.gives) [
-    | inl fails ↦
-        let f = sdes_err at.number (lines_matched at.x (first_of (crypto_values at.n.lines))) c fails in
-        let number : length at.xs_before ≡ at.number = (let e = at.place in omega (arith, e)) in
-        subst IsCause f.2 (record {
-          answer = s;
-          read = read;
-          lines = ls;
-          keying = keying;
-          offered = at.x;
-          lines_before = at.xs_before;
-          lines_behind = at.xs_behind;
-          kept = at.of_xs;
-          number = number;
-          m = at.n;
-          media_before = at.ns_before;
-          media_behind = at.ns_behind;
-          media = at.of_ns;
-          place = sym at.aside ∙ number;
-          takes = at.takes;
-          none = line_shows at.x at.n.lines f.0 f.1;
-        })
-    | inr x ↦ absurd (ok_err _ c x.2)
-  ]
-
   module _ (sent : Sent) (keying : o.keying ≡ OwnMessage sent) where
     responds : IsToRespond o text 255
-    responds = record { answer = s; read = read; sent = sent; keying = keying; session = refl }
+    responds = record { answer = s; fits = fits; sent = sent; keying = keying; session = refl }
 
     no_message : (c : Refusal) → message_in 255 1 (mikey_value s.session) ≡ Err c → IsCause c
     unfolding message_in responds
@@ -462,46 +509,66 @@ module _ (ring : List Installed) (Brings : List Master → Type 0) (o : Offer) (
           ]
     ]
 
-  -- a medium that is kept is keyed
-  never : {X Y : Type 0} (value : ℕ → X → descriptions.Medium → Y) (xs : List (Option X)) (c : Refusal) → each_kept (λ k x n. Ok (value k x n)) 0 (actives_after o.side o.description.media s.media) xs s.media ≡ Err c → ⊥
-  never value xs c e = let at = kept_stops (λ k x n. Ok (value k x n)) o.side 0 o.description.media s.media xs c e in ok_err (value at.number at.x at.n) c at.gives
+  abbrev active : List Bool
+  active = actives_after o.side o.description.media s.media
 
-  keying_shows : (noise : List ℕ) (k : Keying) → o.keying ≡ k → (c : Refusal) → answered_by o noise s (actives_after o.side o.description.media s.media) k ≡ Err c → IsCause c
-  keying_shows noise (PeerLines ls) keying c e = elim (after_ok_err (each_kept (keyed_by_peer_line noise) 0 (actives_after o.side o.description.media s.media) ls s.media) _ c e) [
-    | inl fails ↦ absurd (let at = kept_stops (keyed_by_peer_line noise) o.side 0 o.description.media s.media ls c fails in ok_err _ c at.gives)
+  keying_shows : (noise : List ℕ) (k : Keying) → o.keying ≡ k → (c : Refusal) → answered_by o noise s active k ≡ Err c → IsCause c
+  keying_shows noise (PeerLines ls) keying c e = elim (after_ok_err (each_kept (keyed_by_peer_line noise) 0 active ls s.media) _ c e) [
+    | inl fails ↦ absurd (all_kept (keyed_by_peer_line noise) (λ k x n c e. ok_err _ c e) 0 active ls s.media c fails)
     | inr x ↦ absurd (ok_err _ c x.2)
   ]
-  keying_shows noise (OwnLines ls) keying c e = elim (after_ok_err (each_kept keyed_by_own_lines 0 (actives_after o.side o.description.media s.media) ls s.media) _ c e) [
-    | inl fails ↦ own_lines_show ls keying c (kept_stops keyed_by_own_lines o.side 0 o.description.media s.media ls c fails)
+  keying_shows noise (OwnLines ls) keying c e = elim (after_ok_err (each_kept keyed_by_own_lines 0 active ls s.media) _ c e) [
+    | inl fails ↦ let l = lacks_line o.side 0 o.description.media ls s.media c fails in subst IsCause l.2 (s, fits, (ls, keying, l.3))
     | inr x ↦ absurd (ok_err _ c x.2)
   ]
   keying_shows noise (PeerMessage b) keying c e =
-      elim (after_ok_err (each_kept (λ k streams n. Ok (keyed_as_responder [] streams n)) 0 (actives_after o.side o.description.media s.media) (over_active o.side o.description.media b.streams) s.media) _ c e) [
-        | inl fails ↦ absurd (never (λ k streams n. keyed_as_responder [] streams n) (over_active o.side o.description.media b.streams) c fails)
+      elim (after_ok_err (each_kept (λ k streams n. Ok (keyed_as_responder [] streams n)) 0 active (over_active o.side o.description.media b.streams) s.media) _ c e) [
+        | inl fails ↦ absurd (all_kept (λ k streams n. Ok (keyed_as_responder [] streams n)) (λ k x n c e. ok_err _ c e) 0 active (over_active o.side o.description.media b.streams) s.media c fails)
         | inr x ↦ absurd (ok_err _ c x.2)
       ]
   keying_shows noise (PeerMessages bs) keying c e =
-      elim (after_ok_err (each_kept (λ k x n. Ok (keyed_by_message x n)) 0 (actives_after o.side o.description.media s.media) (map own_streams bs) s.media) _ c e) [
-        | inl fails ↦ absurd (never (λ k x n. keyed_by_message x n) (map own_streams bs) c fails)
+      elim (after_ok_err (each_kept (λ k x n. Ok (keyed_by_message x n)) 0 active (map own_streams bs) s.media) _ c e) [
+        | inl fails ↦ absurd (all_kept (λ k x n. Ok (keyed_by_message x n)) (λ k x n c e. ok_err _ c e) 0 active (map own_streams bs) s.media c fails)
         | inr x ↦ absurd (ok_err _ c x.2)
       ]
   keying_shows noise (OwnMessage sent) keying c e = elim (after_ok_err (streams_answered sent (active_count o.side o.description.media) (mikey_value s.session)) _ c e) [
     | inl fails ↦ streams_show sent keying c fails
-    | inr x ↦ elim (after_ok_err (each_kept (λ k streams n. Ok (keyed_as_initiator streams)) 0 (actives_after o.side o.description.media s.media) (over_active o.side o.description.media x.0) s.media) _ c x.2) [
-      | inl fails ↦ absurd (never (λ k streams n. keyed_as_initiator streams) (over_active o.side o.description.media x.0) c fails)
+    | inr x ↦ elim (after_ok_err (each_kept (λ k streams n. Ok (keyed_as_initiator streams)) 0 active (over_active o.side o.description.media x.0) s.media) _ c x.2) [
+      | inl fails ↦ absurd (all_kept (λ k streams n. Ok (keyed_as_initiator streams)) (λ k x n c e. ok_err _ c e) 0 active (over_active o.side o.description.media x.0) s.media c fails)
       | inr y ↦ absurd (ok_err _ c y.2)
     ]
   ]
+
+keying_is : (o : Offer) (s : sdp.Sdp) (noise : List ℕ) (k : Keying) (a : Keyings) → answered_by o noise s (actives_after o.side o.description.media s.media) k ≡ Ok a → IsKeyedBy o s k
+unfolding streams_answered
+keying_is o s noise (PeerLines ls) a e = tt
+keying_is o s noise (OwnLines ls) a e = let x = after_ok_is (each_kept keyed_by_own_lines 0 (actives_after o.side o.description.media s.media) ls s.media) _ a e in name_lines o.side 0 o.description.media ls s.media x.0 x.1
+keying_is o s noise (PeerMessage b) a e = tt
+keying_is o s noise (PeerMessages bs) a e = tt
+keying_is o s noise (OwnMessage sent) a e =
+    let x = after_ok_is (streams_answered sent (active_count o.side o.description.media) (mikey_value s.session)) _ a e in
+    let y = after_ok_is (message_in 255 1 (mikey_value s.session)) _ x.0 x.1 in
+    let is = message_in_is (mikey_value s.session) y.0 y.1 in
+    let z = after_ok_is (of_psk 255 (response_of y.0.0 y.0.1 sent)) _ x.0 y.2 in
+    let r = response_is y.0.0 y.0.1 sent z.0 (psk_is 255 (response_of y.0.0 y.0.1 sent) z.0 z.1) in
+    (y.0.0, y.0.1, octets_carried s.session y.0.0 is.octets_are, is.read, is.kind, r.0, r.1, r.2)
 
 answer_shows : (ring : List Installed) (Brings : List Master → Type 0) (slot : ℕ) (o : Offer) → Serves o → (noise text : List ℕ) (c : Refusal) → agreed_answer slot o noise text ≡ Err c → Shows ring Brings o text c
 unfolding agreed_answer
 answer_shows ring Brings slot o serves noise text c e = elim (after_ok_err (described (other_side o.side) (Some (length o.description.media)) text) _ c e) [
   | inl fails ↦ description_shows ring Brings o text c fails
   | inr x ↦ elim (after_ok_err (answered_by o noise x.0 (actives_after o.side o.description.media x.0.media) o.keying) _ c x.2) [
-    | inl fails ↦ keying_shows ring Brings o serves text x.0 (described_is (other_side o.side) (Some (length o.description.media)) text x.0 x.1) noise o.keying refl c fails
+    | inl fails ↦ keying_shows ring Brings o serves text x.0 (fits_offer o text x.0 x.1) noise o.keying refl c fails
     | inr y ↦ absurd (ok_err _ c y.2)
   ]
 ]
+
+answer_keyed : (slot : ℕ) (o : Offer) (noise text : List ℕ) (g : AgreedAnswer) → agreed_answer slot o noise text ≡ Ok g → IsKeyed o text
+unfolding agreed_answer
+answer_keyed slot o noise text g e =
+    let x = after_ok_is (described (other_side o.side) (Some (length o.description.media)) text) _ g e in
+    let y = after_ok_is (answered_by o noise x.0 (actives_after o.side o.description.media x.0.media) o.keying) _ g x.2 in
+    (x.0, fits_offer o text x.0 x.1, keying_is o x.0 noise o.keying y.0 y.1)
 
 -- ---- the ring
 
@@ -658,6 +725,9 @@ module _ (laws : Agreements) (ts : List Turn) (w : World) (opened : WereOpened t
       let few = laws.few was.hand was.way was.text was.accepted was.agreed in
       omega (arith, keys, media, offered, few)
 
+  keyed_one : (g : AgreedAnswer) → agreed_answer c.slot o noise text ≡ Ok g → IsKeyed o text
+  keyed_one g e = answer_keyed c.slot o noise text g e
+
   abbrev Showing : Refusal → Type 0
   Showing = Shows w.books.ring (AreBrought ts id o noise text) o text
 
@@ -666,7 +736,7 @@ module _ (laws : Agreements) (ts : List Turn) (w : World) (opened : WereOpened t
     | inl fails ↦ answer_shows w.books.ring (AreBrought ts id o noise text) c.slot o (offer_serves o was) noise text cause fails
     | inr g ↦ elim (after_ok_err (generation_of c.serial c.generations w.books.ring g.0.media) _ cause g.2) [
       | inl fails ↦ elim (after_ok_err (install w.books.ring (keys_from c.serial c.generations 0 g.0.media)) _ cause fails) [
-        | inl full ↦ ring_refuses w.books.ring (AreBrought ts id o noise text) Showing (λ number is. is) (λ is. is) (keys_from c.serial c.generations 0 g.0.media) (keys_brought laws ts id o noise text c by g.0 g.1) (keys_are_few g.0 g.1) cause full
+        | inl full ↦ ring_refuses w.books.ring (AreBrought ts id o noise text) Showing (λ number is. (keyed_one g.0 g.1, is)) (λ is. (keyed_one g.0 g.1, is)) (keys_from c.serial c.generations 0 g.0.media) (keys_brought laws ts id o noise text c by g.0 g.1) (keys_are_few g.0 g.1) cause full
         | inr x ↦ absurd (ok_err _ cause x.2)
       ]
       | inr x ↦ absurd (ok_err _ cause x.2)

@@ -45,7 +45,7 @@ use Rattle.sg_conduct.specs.Firsts.{AnswerIsByFirst, AnswersIt, AreByFirst, AreB
 
 -- ---- suites
 
-suite_is : (a b : Suite) → same_suite a b ≡ true → a ≡ b
+pub suite_is : (a b : Suite) → same_suite a b ≡ true → a ≡ b
 suite_is a b e = some_is a b (sym (suite_again a) ∙ (ap suite_at (is_name (suite_name a) (suite_name b) e) ∙ suite_again b))
 
 suites_matched : (offered : List CryptoLine) (value : List ℕ) (p : CryptoLine × CryptoLine) → matched offered value ≡ Ok p → p.0.suite ≡ p.1.suite

@@ -1,8 +1,8 @@
--- An answer to an open offer is refused only for a cause that its text, its message or the ring shows: of the ring, by the keys that
+-- An answer to an open offer is refused by the first cause that its text, its message or the ring shows: of the ring, by the keys that
 -- this answer brings.
 use Rattle.std.specs.Prelude.{◌≡◌, ◌⊎◌, ◌<◌, ◌≤◌, ℕ, ◌+◌, List, [], ◌∷◌, ◌++◌, length, map, codes, Option, Some, None, Ok, Err}
 use Rattle.std.specs.List.{All, AllByRecursion, Any}
-use Rattle.sg_agreement.specs.Keying.{OwnLines, OwnMessage, Offer}
+use Rattle.sg_agreement.specs.Keying.{Keying, OwnLines, OwnMessage, Offer}
 use Rattle.sg_agreement.specs.Sides.{other_side}
 use Rattle.sg_base.specs.Keys.{Master}
 use Rattle.sg_base.specs.declared.addresses.CallId.{CallId}
@@ -40,7 +40,7 @@ use Rattle.sg_gateway.specs.World.{Call, call_of, empty}
 use Rattle.sg_conduct.specs.Brought.{AreBrought}
 use Rattle.sg_conduct.specs.Firsts.{AnswerIsByFirst}
 use Rattle.sg_conduct.specs.Manual.{AreApart, IsApartInItself}
-use Rattle.sg_conduct.specs.Offers.{NotesComeWithOffers}
+use Rattle.sg_conduct.specs.Offers.{Describes, NotesComeWithOffers}
 use Rattle.sg_conduct.specs.Present.{TakesPart}
 use Rattle.sg_conduct.specs.Staying.{HasBegun, MarksStay, MomentStays, OpenOffersStay, PairsStay, PskIsHeld, RejectedFirstEnds}
 
@@ -68,10 +68,14 @@ HasNoValue lines = AllByRecursion (λ line. (value : List ℕ) → ¬ line ≡ c
 abbrev pub IsFirstValue : List (List ℕ) → List ℕ → Type 0
 IsFirstValue lines value = (before behind : List (List ℕ)) × (lines ≡ before ++ (codes "a=crypto:" ++ value) ∷ behind) × HasNoValue before
 
--- no line that was offered has its tag, or one has it with another suite
+-- of these lines the first that has the tag
+abbrev pub HasTag : List CryptoLine → ℕ → CryptoLine → Type 0
+HasTag offered tag x = (before behind : List CryptoLine) × (offered ≡ before ++ x ∷ behind) × (x.tag ≡ tag) × AllByRecursion (λ y. ¬ y.tag ≡ tag) before
+
+-- no line that was offered has its tag, or the one that has it is of another suite
 abbrev pub IsOfNone : List CryptoLine → CryptoLine → SdesFault → Type 0
 IsOfNone offered l fault =
-    ((fault ≡ Tag) × AllByRecursion (λ x. ¬ x.tag ≡ l.tag) offered) ⊎ ((fault ≡ Suite) × Any (λ x. (x.tag ≡ l.tag) × (¬ x.suite ≡ l.suite)) offered)
+    ((fault ≡ Tag) × AllByRecursion (λ x. ¬ x.tag ≡ l.tag) offered) ⊎ ((fault ≡ Suite) × ((x : CryptoLine) × HasTag offered l.tag x × (¬ x.suite ≡ l.suite)))
 
 -- there is no crypto attribute, or the first isn't read, or names none of these lines
 abbrev pub ShowsNoLine : List CryptoLine → List (List ℕ) → SdesFault → Type 0
@@ -79,31 +83,41 @@ ShowsNoLine offered lines fault =
     (HasNoValue lines × (fault ≡ NoLine))
     ⊎ ((value : List ℕ) × IsFirstValue lines value × ((crypto_of value ≡ Err fault) ⊎ ((l : CryptoLine) × (crypto_of value ≡ Ok l) × IsOfNone offered l fault)))
 
--- so the answer's medium of this number, which takes part, of the lines that the gateway offered for it
-pub record LacksLine (o : Offer) (text : List ℕ) (medium : ℕ) (fault : SdesFault) : Type 0 where
-  pub answer : Sdp
-  pub read : description_of text ≡ Ok answer
-  pub lines : List (Option (List CryptoLine))
-  pub keying : o.keying ≡ OwnLines lines
-  pub offered : List CryptoLine
-  pub lines_before : List (Option (List CryptoLine))
-  pub lines_behind : List (Option (List CryptoLine))
-  pub kept : lines ≡ lines_before ++ Some offered ∷ lines_behind
-  pub number : length lines_before ≡ medium
-  pub m : descriptions.Medium
-  pub media_before : List descriptions.Medium
-  pub media_behind : List descriptions.Medium
-  pub media : answer.media ≡ media_before ++ m ∷ media_behind
-  pub place : length media_before ≡ medium
-  pub takes : TakesPart (other_side o.side) m
-  pub none : ShowsNoLine offered m.lines fault
+-- the first crypto attribute is read, and names one of these lines
+abbrev pub NamesLine : List CryptoLine → List (List ℕ) → Type 0
+NamesLine offered lines =
+    (value : List ℕ) × IsFirstValue lines value × ((l x : CryptoLine) × (crypto_of value ≡ Ok l) × HasTag offered l.tag x × (x.suite ≡ l.suite))
+
+-- a medium stays where it takes part in the offer and in the answer (RFC 3264, 6)
+abbrev pub Stays : Side → descriptions.Medium → descriptions.Medium → Type 0
+Stays side m n = TakesPart side m × TakesPart (other_side side) n
+
+-- Of the media of the offer, with the gateway's lines for them, and of the answer: the first that stays and doesn't name one of its
+-- lines has this number, where the first of all has `first`.
+abbrev pub LacksLine : Side → ℕ → List descriptions.Medium → List (Option (List CryptoLine)) → List descriptions.Medium → ℕ → SdesFault → Type 0
+LacksLine side first (m ∷ ms) (Some offered ∷ ls) (n ∷ ns) medium fault =
+    (Stays side m n × (medium ≡ first) × ShowsNoLine offered n.lines fault) ⊎ ((Stays side m n → NamesLine offered n.lines) × LacksLine side (first + 1) ms ls ns medium fault)
+LacksLine side first (m ∷ ms) (None ∷ ls) (n ∷ ns) medium fault = LacksLine side (first + 1) ms ls ns medium fault
+LacksLine side first ms ls ns medium fault = ⊥
+
+-- each that stays names one
+abbrev pub NameLines : Side → List descriptions.Medium → List (Option (List CryptoLine)) → List descriptions.Medium → Type 0
+NameLines side (m ∷ ms) (Some offered ∷ ls) (n ∷ ns) = (Stays side m n → NamesLine offered n.lines) × NameLines side ms ls ns
+NameLines side (m ∷ ms) (None ∷ ls) (n ∷ ns) = NameLines side ms ls ns
+NameLines side ms ls ns = Unit {0}
+
+-- ---- the description
+
+-- the text describes as many media as were offered (RFC 3264, 6)
+abbrev pub FitsOffer : Offer → List ℕ → Sdp → Type 0
+FitsOffer o text s = Describes (other_side o.side) text s × (length s.media ≡ length o.description.media)
 
 -- ---- a response (RFC 3830, 5.2; RFC 4567, 3.1)
 
 -- the answer to an offer that is keyed by the gateway's message, in whose session part (255) the response is to stand
 pub record IsToRespond (o : Offer) (text : List ℕ) (medium : ℕ) : Type 0 where
   pub answer : Sdp
-  pub read : description_of text ≡ Ok answer
+  pub fits : FitsOffer o text answer
   pub sent : Sent
   pub keying : o.keying ≡ OwnMessage sent
   pub session : medium ≡ 255
@@ -119,16 +133,37 @@ ShowsNoMessage o text medium offset fault =
     × (((place : Place) × (message_of octets ≡ Err place) × (place.offset ≡ offset) × (place.fault ≡ fault))
     ⊎ ((m : Message) × (message_of octets ≡ Ok m) × (¬ m.kind ≡ 1) × (offset ≡ 1) × (fault ≡ DataType)))
 
--- of a response, why it isn't one to the message that was sent: another algorithm, code, bundle or number of crypto sessions
+-- of a response: its MAC is HMAC-SHA-1, and the code of all before it with both names and the stamp; it is of the bundle that was
+-- sent, with as many crypto sessions
+abbrev pub IsOfAlgorithm : Message → Type 0
+IsOfAlgorithm m = (closing_in m.payloads).mac ≡ 1
+
+abbrev pub HasResponseCode : Sent → List ℕ → Message → Type 0
+HasResponseCode sent octets m = (closing_in m.payloads).tag ≡ hmac_sha1 (authentication_key sent.pair.key sent.csb sent.random) (before_mac octets ++ (sent.pair.own ++ (sent.pair.peer ++ sent.stamp)))
+
+abbrev pub IsOfBundle : Sent → Message → Type 0
+IsOfBundle sent m = (m.csb ≡ sent.csb) × (length m.map ≡ length sent.map)
+
+-- the first of these that it isn't
 abbrev pub IsNotTo : Sent → List ℕ → Message → PskFault → Type 0
 IsNotTo sent octets m fault =
-    ((fault ≡ Algorithm) × (¬ (closing_in m.payloads).mac ≡ 1))
-    ⊎ (((fault ≡ BadMac) × (¬ (closing_in m.payloads).tag ≡ hmac_sha1 (authentication_key sent.pair.key sent.csb sent.random) (before_mac octets ++ (sent.pair.own ++ (sent.pair.peer ++ sent.stamp)))))
-    ⊎ ((fault ≡ OtherSession) × (¬ ((m.csb ≡ sent.csb) × (length m.map ≡ length sent.map)))))
+    ((fault ≡ Algorithm) × (¬ IsOfAlgorithm m))
+    ⊎ (((fault ≡ BadMac) × IsOfAlgorithm m × (¬ HasResponseCode sent octets m)) ⊎ ((fault ≡ OtherSession) × IsOfAlgorithm m × HasResponseCode sent octets m × (¬ IsOfBundle sent m)))
 
 abbrev pub ShowsNoResponse : Offer → List ℕ → ℕ → PskFault → Type 0
 ShowsNoResponse o text medium fault =
     (x : IsToRespond o text medium) × (octets : List ℕ) × (m : Message) × Carries x.answer.session octets × (message_of octets ≡ Ok m) × (m.kind ≡ 1) × IsNotTo x.sent octets m fault
+
+-- ---- all of text and message is as it has to be
+
+abbrev pub IsKeyedBy : Offer → Sdp → Keying → Type 0
+IsKeyedBy o s (OwnLines lines) = NameLines o.side o.description.media lines s.media
+IsKeyedBy o s (OwnMessage sent) =
+    (octets : List ℕ) × (m : Message) × Carries s.session octets × (message_of octets ≡ Ok m) × (m.kind ≡ 1) × IsOfAlgorithm m × HasResponseCode sent octets m × IsOfBundle sent m
+IsKeyedBy o s other = Unit {0}
+
+abbrev pub IsKeyed : Offer → List ℕ → Type 0
+IsKeyed o text = (s : Sdp) × FitsOffer o text s × IsKeyedBy o s o.keying
 
 -- ---- the ring (RFC 3711, 9.1)
 
@@ -168,17 +203,21 @@ KeysComeWithUsers t = (new : List Installed) × ((after_turn t).books.ring ≡ t
 
 -- ---- the cause
 
--- By no other cause. Never by `Cs`: the crypto sessions and the policy of the gateway's own message serve (RFC 3830, 6.1.1 and 6.10.1).
+-- The first of these that holds, and no other: it is no description, or lacks an address; no medium takes part; there aren't as many
+-- as were offered; a medium that stays names no line, the first such; or the response isn't there, isn't read, is of another kind, or
+-- isn't one to the message; then the ring. Never by `Cs`: the crypto sessions and the policy of the gateway's own message serve
+-- (RFC 3830, 6.1.1 and 6.10.1).
 abbrev pub Shows : List Installed → (List Master → Type 0) → Offer → List ℕ → Refusal → Type 0
 Shows ring Brings o text (causes.Sdp line fault) = ShowsFault (other_side o.side) text line fault
 Shows ring Brings o text causes.NoMedia = (s : Sdp) × (description_of text ≡ Ok s) × AllByRecursion (λ m. ¬ TakesPart (other_side o.side) m) s.media
-Shows ring Brings o text causes.MediaCount = (s : Sdp) × (description_of text ≡ Ok s) × (¬ length s.media ≡ length o.description.media)
-Shows ring Brings o text (causes.Sdes medium fault) = LacksLine o text medium fault
+Shows ring Brings o text causes.MediaCount = (s : Sdp) × Describes (other_side o.side) text s × (¬ length s.media ≡ length o.description.media)
+Shows ring Brings o text (causes.Sdes medium fault) =
+    (s : Sdp) × FitsOffer o text s × ((lines : List (Option (List CryptoLine))) × (o.keying ≡ OwnLines lines) × LacksLine o.side 0 o.description.media lines s.media medium fault)
 Shows ring Brings o text (causes.KeyMgmt medium) = LacksMessage o text medium
 Shows ring Brings o text (causes.Mikey medium offset fault) = ShowsNoMessage o text medium offset fault
 Shows ring Brings o text (causes.Psk medium fault) = ShowsNoResponse o text medium fault
-Shows ring Brings o text (causes.KeyReused number) = IsReused ring Brings number
-Shows ring Brings o text causes.RingFull = IsFull ring Brings
+Shows ring Brings o text (causes.KeyReused number) = IsKeyed o text × IsReused ring Brings number
+Shows ring Brings o text causes.RingFull = IsKeyed o text × IsFull ring Brings
 Shows ring Brings o text other = ⊥
 
 -- that one cause is told, and nothing else

@@ -30,7 +30,8 @@ pub fn what_is_opened_was_sealed()
     offers_fit_their_calls();
 }
 
-/// Each datagram is opened or sealed once, and told as put out; or it is told as dropped, and changes nothing.
+/// Each datagram is opened or sealed once, and told as put out, sealed under the first live key of its session; or it is told as
+/// dropped, and changes nothing.
 pub fn datagrams_are_settled()
     ensures { (events : List Event) → EachDatagramIsSettled events }
 {}
@@ -100,7 +101,7 @@ pub fn offers_are_told_as_they_came()
     sg_gateway::signals_are_taken();
 }
 
-/// An answer to an open offer is refused only for a cause that its text, its message or the ring shows, by the keys that this
+/// An answer to an open offer is refused by the first cause that its text, its message or the ring shows, by the keys that this
 /// answer would bring, and nothing else is told. No packet, pre-shared key or `manual` line closes an open offer, no key
 /// comes into the ring without a session under it, and no message is noted without its offer. Ticks alone move the moment,
 /// `psk` lines alone change the pre-shared keys, `manual` lines alone mark calls; a call whose first offer is rejected ends,

@@ -40,7 +40,7 @@ settled_told p f port (inl is) =
     let so = subst (λ os. AreToldAs p.leaves os p.told) is.told f.told in
     inl (record { port = so.3.0; cause = is.cause; told = so.2 ∙ (λ i. so.3.1 i ∷ so.4 i); nothing = is.nothing; same = is.same })
 settled_told p f port (inr is) =
-    inr (record { port = (p.leaves is.port is.to).port; to = (p.leaves is.port is.to).to; octets = is.octets; entry = is.entry; told = one_out p f _ _ _ is.told; one = is.one })
+    inr (record { port = (p.leaves is.port is.to).port; to = (p.leaves is.port is.to).to; octets = is.octets; entry = is.entry; told = one_out p f _ _ _ is.told; one = is.one; first = is.first })
 
 module _ (events : List Event) (passages : List Passage) (are : ArePassagesOf events passages) where
   over : (P : Turn → Type 0) (Q : Passage → Type 0) → ((p : Passage) → IsFaithful p → P p.turn → Q p) → All P (turns events) → All Q passages
