@@ -1,19 +1,22 @@
 -- By which ports what comes to a leg that shares its port is taken, and what leaves goes.
-use Rattle.std.proofs.Common.{◌≡◌, ℕ, ◌+◌, ◌-◌, ◌*◌, ◌<◌, ◌≤◌, Bool, true, false, cond, not, eqb, ltb, leb, List, [], ◌∷◌, ◌++◌, Option, refl, sym, ap, ◌∙◌, subst, arith}
+use Rattle.std.proofs.Common.{◌≡◌, ℕ, ◌+◌, ◌-◌, ◌*◌, ◌<◌, ◌≤◌, Bool, true, false, cond, not, eqb, ltb, leb, List, [], ◌∷◌, ◌++◌, map, Option, refl, sym, ap, ◌∙◌, subst, arith}
 use Rattle.std.specs.Prelude.{◌&&◌, ◌%◌}
 use Rattle.std.proofs.lemmas.Bool.{and_parts, and_from, cond-true, cond-false, eq-eqb, eqb-true, false≢true, le-leb, le-ltb, leb-true, lt-ltb, ltb-false, ltb-true, ne_eqb}
 use Rattle.sg_base.specs.declared.addresses.Address.{Address}
 use Rattle.sg_base.specs.declared.addresses.Side.{Side}
 use Rattle.sg_base.specs.declared.addresses.Side.TheVariants.{Secure, Plain}
+use Rattle.sg_base.specs.declared.faults.DropCause.{DropCause}
 use Rattle.sg_gateway.specs.Octets.{Octets}
 use Rattle.sg_gateway.specs.Step.{Event, Datagram}
 use Rattle.sg_gateway.specs.World.{World, empty}
+use Rattle.sg_outcome.specs.declared.outcomes.Outcome.{Outcome}
+use Rattle.sg_outcome.specs.declared.outcomes.Outcome.TheVariants.{Dropped}
 use Rattle.sg_passages.specs.Passages.{Leaving, Passage, straight}
 use Rattle.sg_mux.specs.Latest.{LegsAreMuxed, Telling, known_after, known_from, tellings}
 use Rattle.sg_mux.specs.Legs.{arrived_port, is_muxed, is_muxed_at, is_muxed_rtcp, is_muxed_rtp, is_port, is_report, leaves, medium_of, side_of_port, slot_of}
 use Rattle.sg_mux.specs.Muxed.{nobody}
 use Rattle.sg_mux.specs.Sharing.{IsReport, IsShared, IsTakenAt, LeavesBy, SharesAsTold, rtp_port_of}
-use Rattle.sg_mux.specs.Via.{events_from, muxing_after, passage_at, passages_from, stepped, via}
+use Rattle.sg_mux.specs.Via.{events_from, muxing_after, passage_at, passages_from, stepped, told_at, via}
 use Rattle.sg_mux.specs.declared.known.Known.{Known}
 
 -- ---- the plan of ports
@@ -176,6 +179,11 @@ next_passage : (w : World) (calls : List (Option Known)) (es : List Event) (e : 
 next_passage w calls [] e = refl
 next_passage w calls (x ∷ es) e = ap (λ (l : List Passage). passage_at w calls x ∷ l) (next_passage (stepped w calls x).world (muxing_after w calls x).calls es e)
 
+-- what is told as a drop is so at the port to which the datagram came
+told_here : (calls : List (Option Known)) (port : ℕ) (os : List Outcome) (told : ℕ) (cause : DropCause) → map (told_at calls port) os ≡ Dropped told cause ∷ [] → told ≡ port
+told_here calls port (Dropped p c ∷ os) told cause is = cc
+told_here calls port other told cause is = absurd cc
+
 pub shares_as_told : ((events : List Event) → LegsAreMuxed events) → (before : List Event) (port : ℕ) (from : Address) (octets : Octets) → SharesAsTold before port from octets
 shares_as_told decided before port from octets = record {
   at = arrived_port (known_after before) port octets.items;
@@ -184,4 +192,5 @@ shares_as_told decided before port from octets = record {
   passage = passage_at (world_from empty nobody before) (known_after before) (Datagram port from octets);
   passes = next_passage empty nobody before (Datagram port from octets);
   leaves = leaves_by before (decided before);
+  drops = told_here (known_after before) port (stepped (world_from empty nobody before) (known_after before) (Datagram port from octets)).outcomes;
 }

@@ -1,6 +1,6 @@
 -- What a run tells whose legs share ports, and what is known of its calls.
-use Rattle.std.proofs.Common.{◌≡◌, ◌⊎◌, inl, inr, ℕ, zero, suc, ◌+◌, ◌-◌, ◌%◌, Bool, true, false, cond, not, List, [], ◌∷◌, map, Option, refl, ap, arith, eqb, ◌<◌, set, length, get_or, Some, None, Result, Ok, Err, sym, ◌∙◌}
-use Rattle.std.proofs.lemmas.Bool.{and_parts, eqb-true, eq-eqb, false≢true}
+use Rattle.std.proofs.Common.{◌≡◌, ◌⊎◌, inl, inr, ℕ, zero, suc, ◌+◌, ◌-◌, ◌%◌, Bool, true, false, cond, not, List, [], ◌∷◌, map, Option, refl, ap, arith, eqb, leb, ltb, ◌<◌, ◌≤◌, set, length, get_or, Some, None, Result, Ok, Err, sym, subst, ◌∙◌}
+use Rattle.std.proofs.lemmas.Bool.{and_from, and_parts, eqb-true, eq-eqb, false≢true, le-leb, le-ltb, leb-true, lt-ltb, ltb-false, ltb-true, ne_eqb}
 use Rattle.std.proofs.lemmas.List.{get_or-map, get_or-replicate, get_or-set_other, get_or-set_same, length-map, length-set}
 use Rattle.std.proofs.lemmas.List.Elements.{All-from_recursion}
 use Rattle.std.specs.List.{AllByRecursion, flat_map, list_any}
@@ -8,6 +8,7 @@ use Rattle.std.specs.Prelude.{◌&&◌}
 use Rattle.sg_base.specs.declared.addresses.Address.{Address}
 use Rattle.sg_base.specs.declared.addresses.CallId.{CallId}
 use Rattle.sg_base.specs.declared.addresses.Side.{Side}
+use Rattle.sg_base.specs.declared.addresses.Side.TheVariants.{Secure, Plain}
 use Rattle.sg_base.specs.declared.faults.Refusal.{Refusal}
 use Rattle.sg_gateway.specs.CallSignals.{answered_in}
 use Rattle.sg_gateway.specs.Datagrams.{Given, Drops, Puts, arrived_at, arrived_in, given_to}
@@ -21,41 +22,14 @@ use Rattle.sg_gateway.specs.World.{World, empty, Call, call_of}
 use Rattle.sg_outcome.specs.declared.outcomes.Outcome.{Outcome}
 use Rattle.sg_outcome.specs.declared.outcomes.Outcome.TheVariants.{Sdp, Dropped, Made, Ended}
 use Rattle.sg_passages.proofs.Plainly.{all_as_they_are}
-use Rattle.sg_passages.specs.Passages.{ArePassagesOf, AreToldAs, IsFaithful, IsOneBefore, IsToldAs, KeepsLegs, KeepsOffers, Leaving, straight}
+use Rattle.sg_passages.specs.Passages.{ArePassagesOf, AreToldAs, CameTo, IsFaithful, IsOneBefore, IsToldAs, KeepsLegs, KeepsOffers, Leaving, SharesFirst, straight}
 use Rattle.sg_mux.proofs.Latest.{change_by, marks_of, said, said_append, said_of}
 use Rattle.sg_mux.proofs.Lines.{ReadIsSpelled, adds_lines, same_lines}
 use Rattle.sg_mux.specs.Latest.{Telling, is_answer, known_after, known_from, tellings, tellings_of}
-use Rattle.sg_mux.specs.Legs.{is_muxed_at, is_muxed_rtcp, leaves}
+use Rattle.sg_mux.specs.Legs.{arrived_port, is_muxed, is_muxed_at, is_muxed_rtcp, is_muxed_rtp, is_port, is_report, leaves, medium_of, side_of_port, slot_of}
 use Rattle.sg_mux.specs.Muxed.{agreed, settled_answer, nobody, offered_by, settled, signalled, changed_at, fresh, noted, noted_all, is_text}
 use Rattle.sg_mux.specs.Via.{events_from, events_via, muxing_after, passage_at, passages_from, passages_via, stepped, told_at, via, muxing_at}
 use Rattle.sg_mux.specs.declared.known.Known.{Known}
-
--- ---- what a datagram gives, as it is told
-
-datagram_told : (calls : List (Option Known)) (port : ℕ) (o : Outcome) → IsToldAs (leaves calls) o (told_at calls port o)
-datagram_told calls port (Dropped p cause) = (port, refl)
-datagram_told calls port (Sdp id side text) = (text, refl, same_lines text)
-datagram_told calls port other = refl
-
-all_told : (calls : List (Option Known)) (port : ℕ) (os : List Outcome) → AreToldAs (leaves calls) os (map (told_at calls port) os)
-all_told calls port [] = refl
-all_told calls port (o ∷ os) = (told_at calls port o, map (told_at calls port) os, refl, datagram_told calls port o, all_told calls port os)
-
--- ---- what a signal gives
-
-module _ (spelled : ReadIsSpelled) where
-  settled_told : (calls : List (Option Known)) (o : Outcome) → IsToldAs straight o (settled calls o).told
-  settled_told calls (Sdp id side text) = (_, refl, adds_lines spelled text (agreed text (offered_by id calls)))
-  settled_told calls (Dropped port cause) = (port, refl)
-  settled_told calls other = refl
-
-  answered_told : (calls : List (Option Known)) (os : List Outcome) → AreToldAs straight os (settled_answer calls os).told
-  answered_told calls [] = refl
-  answered_told calls (o ∷ os) = ((settled calls o).told, os, refl, settled_told calls o, all_as_they_are os)
-
-  signal_told : (signal : Signal) (calls : List (Option Known)) (os : List Outcome) → AreToldAs straight os (signalled signal calls os).told
-  signal_told (Answered id noise text) calls os = answered_told calls os
-  signal_told other calls os = all_as_they_are os
 
 -- ---- legs
 
@@ -75,18 +49,96 @@ module _ (calls : List (Option Known)) (port : ℕ) (to : Address) where
   abbrev by : Bool → Leaving
   by b = cond b (record { port = port - 1; to = record { ip = to.ip; port = to.port - 1 } }) (straight port to)
 
-  keeps : (b : Bool) → Shared ≡ b → (by b ≡ straight port to) ⊎ IsOneBefore port to (by b)
-  keeps false is = inl refl
-  keeps true is =
+  lowers : Shared ≡ true → IsOneBefore port to (by true)
+  lowers is =
       let parts = and_parts (is_muxed_rtcp calls port) (not (eqb to.port 0)) is in
       let odd = eqb-true _ _ (and_parts (eqb ((port - 20000) % 2) 1) (is_muxed_at calls port) parts.0).0 in
-      inr (record { second = odd; first = second_port port odd; host = refl; before = some_port to.port (eqb to.port 0) refl parts.1 })
+      record { second = odd; first = second_port port odd; host = refl; before = some_port to.port (eqb to.port 0) refl parts.1 }
+
+  keeps : (b : Bool) → Shared ≡ b → (by b ≡ straight port to) ⊎ IsOneBefore port to (by b)
+  keeps false is = inl refl
+  keeps true is = inr (lowers is)
 
 legs : (calls : List (Option Known)) → KeepsLegs (leaves calls)
 legs calls port to = keeps calls port to (Shared calls port to) refl
 
 straight_legs : KeepsLegs straight
 straight_legs port to = inl refl
+
+-- ---- the port to which a datagram came
+
+side_next : (port : ℕ) → (port - 20000) % 2 ≡ 0 → 20000 ≤ port → (b : Bool) → ltb ((port - 20000) % 4) 2 ≡ b → ltb ((port + 1 - 20000) % 4) 2 ≡ b
+side_next port even low true is = let less = ltb-true ((port - 20000) % 4) 2 is in lt-ltb ((port + 1 - 20000) % 4) 2 (omega (arith, even, low, less))
+side_next port even low false is = let more = ltb-false ((port - 20000) % 4) 2 is in le-ltb ((port + 1 - 20000) % 4) 2 (omega (arith, even, low, more))
+
+second_muxed : (calls : List (Option Known)) (port : ℕ) → is_muxed_rtp calls port ≡ true → is_muxed_rtcp calls (port + 1) ≡ true
+second_muxed calls port is =
+    let parts = and_parts (eqb ((port - 20000) % 2) 0) (is_muxed_at calls port) is in
+    let even = eqb-true ((port - 20000) % 2) 0 parts.0 in
+    let leg = and_parts (is_port port) (is_muxed calls (slot_of port) (medium_of port) (side_of_port port)) parts.1 in
+    let bounds = and_parts (leb 20000 port) (ltb port 24096) leg.0 in
+    let low = leb-true 20000 port bounds.0 in
+    let high = ltb-true port 24096 bounds.1 in
+    let slot : slot_of (port + 1) ≡ slot_of port = omega (arith, even, low) in
+    let medium : medium_of (port + 1) ≡ medium_of port = omega (arith, even, low) in
+    let side = side_next port even low (ltb ((port - 20000) % 4) 2) refl in
+    and_from (eqb ((port + 1 - 20000) % 2) 1) (is_muxed_at calls (port + 1)) (eq-eqb ((port + 1 - 20000) % 2) 1 (omega (arith, even, low)))
+    (and_from (is_port (port + 1)) (is_muxed calls (slot_of (port + 1)) (medium_of (port + 1)) (side_of_port (port + 1)))
+    (and_from (leb 20000 (port + 1)) (ltb (port + 1) 24096) (le-leb 20000 (port + 1) (omega (arith, low))) (lt-ltb (port + 1) 24096 (omega (arith, even, low, high))))
+    ((λ i. is_muxed calls (slot i) (medium i) (cond (side i) Secure Plain)) ∙ leg.1))
+
+shares_first : (calls : List (Option Known)) (port : ℕ) → is_muxed_rtp calls port ≡ true → SharesFirst (leaves calls) (port + 1)
+shares_first calls port is to some =
+    let shared : Shared calls (port + 1) to ≡ true = and_from (is_muxed_rtcp calls (port + 1)) (not (eqb to.port 0)) (second_muxed calls port is) (ap not (ne_eqb to.port 0 some)) in
+    subst (λ b. IsOneBefore (port + 1) to (by calls (port + 1) to b)) (sym shared) (lowers calls (port + 1) to shared)
+
+came_to : (calls : List (Option Known)) (port : ℕ) (octets : List ℕ) → CameTo (leaves calls) (arrived_port calls port octets) port
+came_to calls port octets = go (is_muxed_rtp calls port && is_report octets) refl
+  where
+    go : (b : Bool) → (is_muxed_rtp calls port && is_report octets) ≡ b → CameTo (leaves calls) (cond b (port + 1) port) port
+    go true is = inr (shares_first calls port (and_parts (is_muxed_rtp calls port) (is_report octets) is).0, refl)
+    go false is = inl refl
+
+-- ---- what a datagram gives, as it is told
+
+-- a drop is at this port
+abbrev DropsAt : ℕ → Outcome → Type 0
+DropsAt at (Dropped port cause) = port ≡ at
+DropsAt at other = Unit {0}
+
+given_at : (w : World) (at : ℕ) (g : Given) → AllByRecursion (DropsAt at) (given_to w at g).outcomes
+given_at w at (Drops cause) = (refl, tt)
+given_at w at (Puts p) = (tt, tt)
+
+drops_at : (w : World) (at : ℕ) (from : Address) (d : List ℕ) (c : Option Call) → AllByRecursion (DropsAt at) (arrived_at w at from d c).outcomes
+drops_at w at from d None = (refl, tt)
+drops_at w at from d (Some c) = given_at w at (arrived_in w.moment at from d c)
+
+module _ (calls : List (Option Known)) (port at : ℕ) (came : CameTo (leaves calls) at port) where
+  datagram_told : (o : Outcome) → DropsAt at o → IsToldAs (leaves calls) o (told_at calls port o)
+  datagram_told (Dropped p cause) is = (port, refl, subst (λ p. CameTo (leaves calls) p port) (sym is) came)
+  datagram_told (Sdp id side text) is = (text, refl, same_lines text)
+  datagram_told other is = refl
+
+  all_told : (os : List Outcome) → AllByRecursion (DropsAt at) os → AreToldAs (leaves calls) os (map (told_at calls port) os)
+  all_told [] are = refl
+  all_told (o ∷ os) are = (told_at calls port o, map (told_at calls port) os, refl, datagram_told o are.0, all_told os are.1)
+
+-- ---- what a signal gives
+
+module _ (spelled : ReadIsSpelled) where
+  settled_told : (calls : List (Option Known)) (o : Outcome) → IsToldAs straight o (settled calls o).told
+  settled_told calls (Sdp id side text) = (_, refl, adds_lines spelled text (agreed text (offered_by id calls)))
+  settled_told calls (Dropped port cause) = (port, refl, inl refl)
+  settled_told calls other = refl
+
+  answered_told : (calls : List (Option Known)) (os : List Outcome) → AreToldAs straight os (settled_answer calls os).told
+  answered_told calls [] = refl
+  answered_told calls (o ∷ os) = ((settled calls o).told, os, refl, settled_told calls o, all_as_they_are os)
+
+  signal_told : (signal : Signal) (calls : List (Option Known)) (os : List Outcome) → AreToldAs straight os (signalled signal calls os).told
+  signal_told (Answered id noise text) calls os = answered_told calls os
+  signal_told other calls os = all_as_they_are os
 
 -- ---- offers
 
@@ -105,7 +157,9 @@ module _ (spelled : ReadIsSpelled) where
     offers = offers_stay w calls signal;
   }
   faithful_at w calls (Datagram port from octets) = record {
-    told = all_told calls port (stepped w calls (Datagram port from octets)).outcomes;
+    told =
+        let at : ℕ = arrived_port calls port octets.items in
+        all_told calls port at (came_to calls port octets.items) (stepped w calls (Datagram port from octets)).outcomes (drops_at w at from octets.items (call_at w at));
     legs = legs calls;
     offers = λ id way noise text is. absurd cc;
   }

@@ -3,8 +3,10 @@ use Rattle.std.specs.Prelude.{◌≡◌, ◌≤◌, ◌<◌, ◌+◌, ◌-◌, �
 use Rattle.sg_base.specs.declared.addresses.Address.{Address}
 use Rattle.sg_base.specs.declared.addresses.Side.{Side}
 use Rattle.sg_base.specs.declared.addresses.Side.TheVariants.{Secure, Plain}
+use Rattle.sg_base.specs.declared.faults.DropCause.{DropCause}
 use Rattle.sg_gateway.specs.Octets.{Octets}
 use Rattle.sg_gateway.specs.Step.{Event, Datagram}
+use Rattle.sg_outcome.specs.declared.outcomes.Outcome.TheVariants.{Dropped}
 use Rattle.sg_mux.specs.Latest.{SharesPort, Telling, tellings}
 use Rattle.sg_mux.specs.Via.{events_via, passages_via}
 use Rattle.sg_passages.specs.Passages.{Leaving, Passage, straight}
@@ -45,7 +47,8 @@ pub record LeavesBy (told : List Telling) (port : ℕ) (to : Address) (l : Leavi
   pub shared : (rtp : ℕ) → IsShared told rtp → port ≡ rtp + 1 → ¬ (to.port ≡ 0) → l ≡ record { port = rtp; to = record { ip = to.ip; port = to.port - 1 } }
   pub other : ¬ ((rtp : ℕ) × IsShared told rtp × (port ≡ rtp + 1) × ¬ (to.port ≡ 0)) → l ≡ straight port to
 
--- So is the next datagram behind these events taken, and so leaves what it puts out.
+-- So is the next datagram behind these events taken, and so leaves what it puts out; where it is dropped, that is told at the port
+-- to which it came, whether a leg shares that or not.
 pub record SharesAsTold (before : List Event) (port : ℕ) (from : Address) (octets : Octets) : Type 0 where
   pub at : ℕ
   pub taken : IsTakenAt (tellings before) port octets.items at
@@ -53,3 +56,4 @@ pub record SharesAsTold (before : List Event) (port : ℕ) (from : Address) (oct
   pub passage : Passage
   pub passes : passages_via (before ++ Datagram port from octets ∷ []) ≡ passages_via before ++ passage ∷ []
   pub leaves : (by : ℕ) (to : Address) → LeavesBy (tellings before) by to (passage.leaves by to)
+  pub drops : (told : ℕ) (cause : DropCause) → passage.told ≡ Dropped told cause ∷ [] → told ≡ port

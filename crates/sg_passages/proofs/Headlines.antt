@@ -22,7 +22,7 @@ use Rattle.sg_passages.proofs.Lifting.{bars_out, bars_plain, bars_secure, each, 
 use Rattle.sg_passages.proofs.Texts.{told_no_key}
 use Rattle.sg_passages.specs.Passages.{ArePassagesOf, AreToldAs, IsFaithful, Passage}
 use Rattle.sg_passages.specs.PutOut as told
-use Rattle.sg_passages.specs.Told.{DatagramIsTold, EachAsTold, IsToldDropped, OpensWhatGoesOut, PlainTextsHaveNoKey, RefusalChangesNothing, SealsWhatGoesOut, SignalStaysIn, as_told}
+use Rattle.sg_passages.specs.Told.{DatagramIsTold, EachAsTold, EachDatagramIsTold, IsToldDropped, OpensWhatGoesOut, PlainTextsHaveNoKey, RefusalChangesNothing, SealsWhatGoesOut, SignalStaysIn, as_told}
 
 -- ---- what is put out of one passage
 
@@ -35,10 +35,10 @@ sealed_out p f e c s is = record { name = is.name; encrypts = is.encrypts; key =
 arrived_out : (p : Passage) → IsFaithful p → (c : Call) (s : Session) (x : Sealed) → arriving.IsPutOut p.turn c s x → told.IsPutOut p c s x
 arrived_out p f c s x is = record { opened = is.opened; out = one_out p f _ _ _ is.out }
 
-settled_told : (p : Passage) → IsFaithful p → (port : ℕ) → IsDropped p.turn port ⊎ IsOneOut p.turn → IsToldDropped (as_told p) ⊎ IsOneOut (as_told p)
+settled_told : (p : Passage) → IsFaithful p → (port : ℕ) → IsDropped p.turn port ⊎ IsOneOut p.turn → IsToldDropped p port ⊎ IsOneOut (as_told p)
 settled_told p f port (inl is) =
     let so = subst (λ os. AreToldAs p.leaves os p.told) is.told f.told in
-    inl (record { port = so.3.0; cause = is.cause; told = so.2 ∙ (λ i. so.3.1 i ∷ so.4 i); nothing = is.nothing; same = is.same })
+    inl (record { at = so.3.0; came = so.3.2; cause = is.cause; told = so.2 ∙ (λ i. so.3.1 i ∷ so.4 i); nothing = is.nothing; same = is.same })
 settled_told p f port (inr is) =
     inr (record { port = (p.leaves is.port is.to).port; to = (p.leaves is.port is.to).to; octets = is.octets; entry = is.entry; told = one_out p f _ _ _ is.told; one = is.one; first = is.first })
 
@@ -80,8 +80,8 @@ module _ (events : List Event) (passages : List Passage) (are : ArePassagesOf ev
   departing_sealed holds = over place.WithinReachAreSealed told.DepartingAreSealed
       (λ p f h port from d c s ssrc index is a. any_weaker _ _ (λ k r. record { live = r.live; sealed = r.sealed; out = one_out p f _ _ _ r.out }) s.keys (h port from d c s ssrc index is a)) holds
 
-  pub settled : EachDatagramIsSettled events → EachAsTold DatagramIsTold passages
-  settled holds = over DatagramIsSettled (λ p. DatagramIsTold (as_told p)) (λ p f h port from d is. settled_told p f port (h port from d is)) holds
+  pub settled : EachDatagramIsSettled events → EachDatagramIsTold passages
+  settled holds = over DatagramIsSettled DatagramIsTold (λ p f h port from d is. settled_told p f port (h port from d is)) holds
 
   pub drops : DropsShowCauses events → EachAsTold DropShowsCause passages
   drops holds = over DropShowsCause (λ p. DropShowsCause (as_told p)) (λ p f h port arrived from d cause is outs. let drop = told_drop p f arrived cause outs in h port drop.0 from d cause is drop.1) holds

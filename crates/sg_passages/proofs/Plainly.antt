@@ -22,7 +22,7 @@ same_text text =
     }
 
 pub as_it_is : (o : Outcome) → IsToldAs straight o o
-as_it_is (Dropped port cause) = (port, refl)
+as_it_is (Dropped port cause) = (port, refl, inl refl)
 as_it_is (Sdp id side text) = (text, refl, same_text text)
 as_it_is other = refl
 

@@ -40,7 +40,7 @@ use Rattle.sg_conduct.specs.ToldTexts.{ToldTextsAreOwn}
 use Rattle.sg_conduct.specs.Unsealed.{EachOpeningIsUnsealed}
 use Rattle.sg_passages.specs.Passages.{Passage}
 use Rattle.sg_passages.specs.PutOut.{EachArrivingIsPutOut, EachDepartingIsSealed, EachOpeningGoesOut, EachOpeningIsSealed, EachSealGoesOut}
-use Rattle.sg_passages.specs.Told.{DatagramIsTold, EachAsTold, OpensWhatGoesOut, PlainTextsHaveNoKey, RefusalChangesNothing, SealsWhatGoesOut, SignalStaysIn}
+use Rattle.sg_passages.specs.Told.{EachAsTold, EachDatagramIsTold, OpensWhatGoesOut, PlainTextsHaveNoKey, RefusalChangesNothing, SealsWhatGoesOut, SignalStaysIn}
 
 -- The headline, over the events of a run as they come to the gateway and over what the run tells of them, for every list
 -- of sealed packets: nothing forged goes out on a plain leg, and nothing unsealed on a secure one; nothing twice; nothing
@@ -103,7 +103,7 @@ pub record Headline (events : List Event) (passages : List Passage) : Type 0 whe
   pub messages : EachAsTold (λ t. OfferIsAuthentic t × NotesStay t) passages
   pub unsealed : EachOpeningIsUnsealed events
   pub done : SessionsHaveDone events
-  pub settled : EachAsTold DatagramIsTold passages
+  pub settled : EachDatagramIsTold passages
   pub drops : EachAsTold DropShowsCause passages
   pub others : OtherCallsStay events
   pub were_heard : CallsWereHeard events

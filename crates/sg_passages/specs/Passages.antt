@@ -44,11 +44,28 @@ pub record AddsMuxLines (first text : List ℕ) : Type 0 where
   pub added : All (λ line. Any (λ l. l ≡ line) (slice_split ends_line first) ⊎ (line ≡ mux_line)) (slice_split ends_line text)
   pub kept : All (λ line. Any (λ l. l ≡ line) (slice_split ends_line text)) (slice_split ends_line first)
 
--- What is told of an outcome: of a packet that it leaves; of a drop the cause, at some port; of a description a text to the
--- same side, with no line more but that of RFC 5761; everything else as it is.
+-- A leg has two ports: of RTP, and the next one of RTCP. What the second puts out leaves by the first, and to the port of
+-- the same host before that to which it was put out.
+pub record IsOneBefore (port : ℕ) (to : Address) (l : Leaving) : Type 0 where
+  pub second : (port - 20000) % 2 ≡ 1
+  pub first : l.port + 1 ≡ port
+  pub host : l.to.ip ≡ to.ip
+  pub before : l.to.port + 1 ≡ to.port
+
+-- A leg shares its first port where all that its second one, which this is, puts out to a port but 0 leaves so.
+abbrev pub SharesFirst : Leaves → ℕ → Type 0
+SharesFirst leaves port = (to : Address) → ¬ to.port ≡ 0 → IsOneBefore port to (leaves port to)
+
+-- The port to which a datagram came that the gateway takes at this one: the same, or the first of a leg that shares it, where
+-- this is the second.
+abbrev pub CameTo : Leaves → ℕ → ℕ → Type 0
+CameTo leaves port came = (came ≡ port) ⊎ (SharesFirst leaves port × (came + 1 ≡ port))
+
+-- What is told of an outcome: of a packet that it leaves; of a drop the cause, at the port to which its datagram came; of a
+-- description a text to the same side, with no line more but that of RFC 5761; everything else as it is.
 abbrev pub IsToldAs : Leaves → Outcome → Outcome → Type 0
 IsToldAs leaves (Out port to octets) o = o ≡ out_by leaves port to octets
-IsToldAs leaves (Dropped port cause) o = (arrived : ℕ) × (o ≡ Dropped arrived cause)
+IsToldAs leaves (Dropped port cause) o = (came : ℕ) × (o ≡ Dropped came cause) × CameTo leaves port came
 IsToldAs leaves (Sdp id side first) o = (text : List ℕ) × (o ≡ Sdp id side text) × AddsMuxLines first text
 IsToldAs leaves (Made id slot media) o = o ≡ Made id slot media
 IsToldAs leaves (Live id) o = o ≡ Live id
@@ -60,14 +77,6 @@ IsToldAs leaves (Unsent port to) o = o ≡ Unsent port to
 abbrev pub AreToldAs : Leaves → List Outcome → List Outcome → Type 0
 AreToldAs leaves [] told = told ≡ []
 AreToldAs leaves (o ∷ os) told = (t : Outcome) × (ts : List Outcome) × (told ≡ t ∷ ts) × IsToldAs leaves o t × AreToldAs leaves os ts
-
--- A leg has two ports: of RTP, and the next one of RTCP. What the second puts out leaves by the first, and to the port of
--- the same host before that to which it was put out.
-pub record IsOneBefore (port : ℕ) (to : Address) (l : Leaving) : Type 0 where
-  pub second : (port - 20000) % 2 ≡ 1
-  pub first : l.port + 1 ≡ port
-  pub host : l.to.ip ≡ to.ip
-  pub before : l.to.port + 1 ≡ to.port
 
 -- each packet leaves as it was put out; or so, where a leg's RTCP shares the port of its RTP (RFC 5761)
 abbrev pub KeepsLegs : Leaves → Type 0

@@ -16,7 +16,7 @@ use Rattle.sg_gateway.specs.Signals.{Signal}
 use Rattle.sg_gateway.specs.Step.{Datagram, Signalled}
 use Rattle.sg_outcome.specs.declared.outcomes.Outcome.TheVariants.{Dropped, Sdp}
 use Rattle.sg_session.specs.declared.names.Direction.TheVariants.{Opening, Sealing}
-use Rattle.sg_passages.specs.Passages.{Passage}
+use Rattle.sg_passages.specs.Passages.{CameTo, Passage}
 
 -- the turn, with what is told of it for its outcomes
 abbrev pub as_told : Passage → Turn
@@ -38,17 +38,21 @@ SealsWhatGoesOut t = AllByRecursion (λ e. e.session.owner.direction ≡ Opening
 abbrev pub SignalStaysIn : Turn → Type 0
 SignalStaysIn t = (signal : Signal) → t.event ≡ Signalled signal → All (λ o. ¬ IsOut o) t.outcomes
 
--- nothing is opened or sealed, the cause is told, and the world stays as it was
-pub record IsToldDropped (t : Turn) : Type 0 where
-  pub port : ℕ
+-- nothing is opened or sealed, the cause is told, at the port to which the datagram came, and the world stays as it was
+pub record IsToldDropped (p : Passage) (port : ℕ) : Type 0 where
+  pub at : ℕ
+  pub came : CameTo p.leaves port at
   pub cause : DropCause
-  pub told : t.outcomes ≡ Dropped port cause ∷ []
-  pub nothing : t.entries ≡ []
-  pub same : after_turn t ≡ t.before
+  pub told : p.told ≡ Dropped at cause ∷ []
+  pub nothing : p.turn.entries ≡ []
+  pub same : after_turn p.turn ≡ p.turn.before
 
 -- each datagram is dropped so; or one packet is opened or sealed, and one put out
-abbrev pub DatagramIsTold : Turn → Type 0
-DatagramIsTold t = (port : ℕ) (from : Address) (d : Octets) → t.event ≡ Datagram port from d → IsToldDropped t ⊎ IsOneOut t
+abbrev pub DatagramIsTold : Passage → Type 0
+DatagramIsTold p = (port : ℕ) (from : Address) (d : Octets) → p.turn.event ≡ Datagram port from d → IsToldDropped p port ⊎ IsOneOut (as_told p)
+
+abbrev pub EachDatagramIsTold : List Passage → Type 0
+EachDatagramIsTold passages = All DatagramIsTold passages
 
 -- calls, ring, books and moment are after a refusal what they were before
 abbrev pub RefusalChangesNothing : Turn → Type 0
