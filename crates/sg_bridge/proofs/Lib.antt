@@ -7,6 +7,7 @@ mod Inside
 mod Joined
 mod Known
 mod Lasting
+mod LostCauses
 mod Mates
 mod OutcomeLines
 mod PutAt

@@ -5,6 +5,7 @@ use Rattle.sg_bridge.specs.Calls.{EachIsAsTold, EachJoinsAndPartsSo, MembersAreT
 use Rattle.sg_bridge.specs.Happening.{EachComesBehind, EachLineHappens}
 use Rattle.sg_bridge.specs.Lasting.{EachPairLasts}
 use Rattle.sg_bridge.specs.Lost.{EachLostIsRefused, EachOpenedIsSettled}
+use Rattle.sg_bridge.specs.LostCauses.{EachLostShowsCause}
 use Rattle.sg_bridge.specs.Telling.{EachSignalIsTold}
 
 pub record BridgeHolds (said : List Said) : Type 0 where
@@ -18,6 +19,8 @@ pub record BridgeHolds (said : List Said) : Type 0 where
   pub settled : EachOpenedIsSettled said
   -- what is told as lost was opened by the other call, and refused with that cause, or there was no plain address for it
   pub lost : EachLostIsRefused said
+  -- it shows that cause in the other call, as a drop does
+  pub shown : EachLostShowsCause said
   -- before and after each line the calls that are known are the world's
   pub members : MembersAreTheCalls said
   -- a line that joins or parts tells that it is done, or the first cause why not

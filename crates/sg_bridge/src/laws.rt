@@ -9,12 +9,14 @@ ghost use Rattle.sg_bridge.specs.Calls.{EachIsAsTold, EachJoinsAndPartsSo, Membe
 ghost use Rattle.sg_bridge.specs.Happening.{EachComesBehind, EachLineHappens};
 ghost use Rattle.sg_bridge.specs.Lasting.{EachPairLasts};
 ghost use Rattle.sg_bridge.specs.Lost.{EachLostIsRefused, EachOpenedIsSettled};
+ghost use Rattle.sg_bridge.specs.LostCauses.{EachLostShowsCause};
 ghost use Rattle.sg_bridge.specs.Telling.{EachSignalIsTold};
 ghost use Rattle.sg_bridge.specs.Unjoined.{IsToldAsItIs};
 ghost use Rattle.sg_bridge.specs.declared.outcomes.BridgeOutcome.{BridgeOutcome};
 ghost use Rattle.sg_gateway.specs.Step.{Event};
 
 use sg_agreement::offers_fit_their_calls;
+use sg_conduct::drops_show_causes;
 use sg_gateway::calls_in_order;
 use sg_outcome::outcomes_have_one_spelling;
 
@@ -38,6 +40,16 @@ pub fn lost_is_refused()
     ensures settled { (said : List Said) → EachOpenedIsSettled said }
     ensures refused { (said : List Said) → EachLostIsRefused said }
 {}
+
+/// What is told as lost shows its cause in the other call, in the world behind its opening: no session there puts out by that port
+/// (`PortUnused`); or what comes to it from the plain side's address shows it, as a drop does.
+pub fn lost_shows_its_cause()
+    ensures { (said : List Said) → EachLostShowsCause said }
+{
+    lost_is_refused();
+    each_line_happens();
+    drops_show_causes();
+}
 
 /// Before and after each line the calls that a bridge knows are those of the world: in each slot the number of the call
 /// that is there, how many media it has, and whether it has a generation.
@@ -96,6 +108,7 @@ pub fn the_bridge_holds()
     joined_calls_stay_inside();
     joined_ports_go_both_ways();
     lost_is_refused();
+    lost_shows_its_cause();
     members_are_the_calls();
     joins_have_their_causes();
     pairs_last_until_parted();

@@ -16,8 +16,8 @@ pub use bridge::Bridge;
 pub use faults::JoinFault;
 pub use laws::{
     bridge_outcomes_have_one_spelling, each_line_happens, joined_calls_stay_inside,
-    joined_ports_go_both_ways, joins_have_their_causes, lost_is_refused, members_are_the_calls,
-    pairs_last_until_parted, signals_are_told, the_bridge_holds,
+    joined_ports_go_both_ways, joins_have_their_causes, lost_is_refused, lost_shows_its_cause,
+    members_are_the_calls, pairs_last_until_parted, signals_are_told, the_bridge_holds,
     unjoined_calls_are_told_as_they_are,
 };
 pub use lines::BridgeLine;

@@ -7,6 +7,7 @@ returns c said = record {
   both_ways = c.joined_ports_go_both_ways.ensures said;
   settled = c.lost_is_refused.ensures.settled said;
   lost = c.lost_is_refused.ensures.refused said;
+  shown = c.lost_shows_its_cause.ensures said;
   members = c.members_are_the_calls.ensures said;
   causes = c.joins_have_their_causes.ensures.causes said;
   told = c.joins_have_their_causes.ensures.told said;
