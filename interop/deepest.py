@@ -70,7 +70,7 @@ def frames(program):
 
 
 def chains(program):
-    """The longest chain in octets by each function that the command's thread calls."""
+    """The longest chain in octets by each command's function, from the beginning of its thread."""
     found, again, depths = frames(program), set(), {}
 
     def depth(name, behind=()):
@@ -83,13 +83,19 @@ def chains(program):
             depths[name] = frame * (AGAIN if name in again else 1) + below
         return depths[name]
 
-    thread = next(name for name in found if name.startswith("srtpgw::command"))
-    depth(thread)
+    def above(name):
+        """What those take that call it, up to the thread's own function."""
+        return max((frame + above(it) for it, (frame, calls) in found.items() if name in calls and it != name), default=0)
+
+    # the compiler may have put it into the function of the thread
+    begins = next(name for name, (_, calls) in found.items() if any(it.startswith("sg_migrate::migrating::") for it in calls))
+    depth(begins)
     # once more, since it is known now what calls itself
     depths.clear()
-    depth(thread)
+    depth(begins)
     word = lambda name: name.split("::<")[0].split("::")[-1]
-    return {word(it): found[thread][0] + depths[it] + LIBRARY for it in found[thread][1] if it.startswith("sg_")}
+    room = above(begins) + found[begins][0] + LIBRARY
+    return {word(it): room + depths[it] for it in found[begins][1] if it.startswith("sg_")}
 
 
 class Meter(Player):
