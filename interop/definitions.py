@@ -717,10 +717,10 @@ def muxed(script):
 
 def bridged(script):
     """The lines of what a bridge tells, by the definitions of what its lines say, of a part of it and of an outcome's text."""
-    bridging = definition("sg_bridge.specs.Bridged", "bridging")
-    line = definition("sg_bridge.specs.BridgeText", "bridge_outcome_line")
-    world, calls = definition("sg_gateway.specs.World", "empty"), definition("sg_bridge.specs.Pairs", "no_members")
-    for said in call(definition("sg_bridging.specs.Bridge", "bridge_trace"), tuple(script), ()).fields["deeds"]:
+    bridging = definition("sg_pairs.specs.Bridged", "bridging")
+    line = definition("sg_pairs.specs.BridgeText", "bridge_outcome_line")
+    world, calls = definition("sg_gateway.specs.World", "empty"), definition("sg_pairs.specs.Pairs", "no_members")
+    for said in call(definition("sg_bridge.specs.Bridge", "bridge_trace"), tuple(script), ()).fields["deeds"]:
         given = call(bridging, world, calls, said)
         world, calls = given.fields["world"], given.fields["calls"]
         for outcome in given.fields["told"]:

@@ -48,8 +48,8 @@ use Rattle.sg_passages.specs.Told.{EachAsTold, EachDatagramIsTold, OpensWhatGoes
 -- that it is never forgotten, and the order of calls and names. What becomes of signals, taken and refused, of calls that
 -- end, and of the generations before a call's current one. And what texts and messages have to do with it: no text that the
 -- plain side is told has a key, media go to the addresses that texts tell, under the keys that they tell, and messages are
--- accepted that are authentic. `plain_texts` and `by_texts` speak of the gateway's own texts. What is told of an offer is
--- that text, and what is told of an answer has no line that isn't one of that text, but `a=rtcp-mux` (`AddsMuxLines`).
+-- accepted that are authentic. `plain_texts`, `own_texts` and `by_texts` speak of the gateway's own texts. What is told of an
+-- offer is that text, and what is told of an answer has no line that isn't one of that text, but `a=rtcp-mux` (`AddsMuxLines`).
 pub record Headline (events : List Event) (passages : List Passage) : Type 0 where
   pub each_sealed : (sealed : List Sealed) → AreSealed sealed → Unforged sealed events → EachOpeningIsSealed sealed passages
   pub highest : (sealed : List Sealed) → AreSealed sealed → Unforged sealed events → EachHighestIsSealed sealed events

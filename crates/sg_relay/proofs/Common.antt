@@ -2,10 +2,6 @@
 pub use Rattle.sg_base.specs.declared.addresses.Address.{Address}
 pub use Rattle.sg_base.specs.declared.addresses.CallId.{CallId}
 pub use Rattle.sg_base.specs.declared.faults.ScriptFault.{ScriptFault}
-pub use Rattle.sg_bridge.specs.Bridged.{Bridging, Following, Happens, Joins, Parts, Said, arrived, bridging, bridgings_from, handed_on, inner, inner_told}
-pub use Rattle.sg_bridge.specs.Bridged.{joining, opened, parting, passed, told_and_parted}
-pub use Rattle.sg_bridge.specs.Pairs.{Joining, Members, Parting, after_outcome, joined, joined_pair, member_at, no_members, parted_from, vacated}
-pub use Rattle.sg_bridge.specs.declared.outcomes.BridgeOutcome.{BridgeOutcome}
 pub use Rattle.sg_edge.proofs.Links.{added_more, added_none, called_more, called_none}
 pub use Rattle.sg_edge.proofs.Passed.{took_more, took_none, wrote_more, wrote_none}
 pub use Rattle.sg_edge.specs.Links.{Added, Called, Came, Failing, LinkCall, Nothing, Receive, Received, received}
@@ -27,6 +23,10 @@ pub use Rattle.sg_lines.specs.ScriptLines.{IsWhole, lines_of}
 pub use Rattle.sg_outcome.specs.declared.outcomes.Outcome.{Outcome}
 pub use Rattle.sg_outcome.specs.declared.outcomes.Outcome.TheVariants.{Dropped, Ended, Live, Made, Out, Unsent}
 pub use Rattle.sg_outcome.specs.declared.outcomes.Why.{Why}
+pub use Rattle.sg_pairs.specs.Bridged.{Bridging, Following, Happens, Joins, Parts, Said, arrived, bridging, bridgings_from, handed_on, inner, inner_told}
+pub use Rattle.sg_pairs.specs.Bridged.{joining, opened, parting, passed, told_and_parted}
+pub use Rattle.sg_pairs.specs.Pairs.{Joining, Members, Parting, after_outcome, joined, joined_pair, member_at, no_members, parted_from, vacated}
+pub use Rattle.sg_pairs.specs.declared.outcomes.BridgeOutcome.{BridgeOutcome}
 pub use Rattle.sg_relay.specs.Acting.{Acting, GoInOrder}
 pub use Rattle.sg_relay.specs.Asked.{Act, AreGood, AreInOrder, Ask, AtFailedReceive, Bind, EndsBadly, IsAtNext, IsCutOff, IsDone, IsGood, IsPart, Send, Sends}
 pub use Rattle.sg_relay.specs.Asked.{Unbind, act_of, ask_in, asks_in, asks_of, hold, ports_from, ports_of, receipt_in, receipts_in}

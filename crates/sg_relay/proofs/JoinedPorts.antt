@@ -1,11 +1,11 @@
 -- Where calls are joined, what is asked of a link is what the table's outcomes ask for, with some sends left out: so the ports are
 -- those of the calls all the same.
 use Rattle.std.proofs.Common.{◌≡◌, inl, inr, ℕ, false, List, [], ◌∷◌, ◌++◌, map, Option, Some, None, Result, Ok, Err, refl, sym, ap, ◌∙◌, subst, append-nil, flat_map, option_to_list}
-use Rattle.sg_bridge.specs.Onward.{onward}
-use Rattle.sg_bridge.specs.declared.faults.JoinFault.{JoinFault}
-use Rattle.sg_bridge.specs.declared.members.Pair.{Pair}
-use Rattle.sg_bridge.specs.declared.outcomes.BridgeOutcome.TheVariants as tells
 use Rattle.sg_gateway.specs.PlainOf.{plain_at}
+use Rattle.sg_pairs.specs.Onward.{onward}
+use Rattle.sg_pairs.specs.declared.faults.JoinFault.{JoinFault}
+use Rattle.sg_pairs.specs.declared.members.Pair.{Pair}
+use Rattle.sg_pairs.specs.declared.outcomes.BridgeOutcome.TheVariants as tells
 use Rattle.sg_relay.specs.Plain as plain
 use Rattle.sg_relay.proofs.Common.{Address, Ask, BridgeOutcome, Bridging, CallId, Datagram, Dropped, Ended, Event, Happens, Joining, Joins, Live, Made}
 use Rattle.sg_relay.proofs.Common.{Members, Out, Outcome, Parting, Parts, PortsAreOfCalls, Said, Signalled, World, act_of_bridge, acts, acts_of_all}

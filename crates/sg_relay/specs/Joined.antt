@@ -2,18 +2,18 @@
 -- them is a bridge's.
 use Rattle.std.specs.Prelude.{ℕ, List, [], ◌∷◌, map, Option, Some, None}
 use Rattle.sg_base.specs.declared.addresses.Address.{Address}
-use Rattle.sg_bridge.specs.BridgeLines.{bridge_line_of, bridge_version_after}
-use Rattle.sg_bridge.specs.BridgeText.{bridge_outcome_line}
-use Rattle.sg_bridge.specs.Bridged.{Said, Happens, Joins, Parts, bridged_events, bridged_outcomes}
-use Rattle.sg_bridge.specs.Pairs.{Members}
-use Rattle.sg_bridge.specs.declared.lines.BridgeLine.{BridgeLine}
-use Rattle.sg_bridge.specs.declared.lines.BridgeLine.TheVariants as lines
-use Rattle.sg_bridge.specs.declared.outcomes.BridgeOutcome.{BridgeOutcome}
-use Rattle.sg_bridge.specs.declared.outcomes.BridgeOutcome.TheVariants as tells
 use Rattle.sg_gateway.specs.Runs.{world_after}
 use Rattle.sg_gateway.specs.Step.{Event}
 use Rattle.sg_gateway.specs.World.{World, empty}
 use Rattle.sg_outcome.specs.declared.outcomes.Outcome.{Outcome}
+use Rattle.sg_pairs.specs.BridgeLines.{bridge_line_of, bridge_version_after}
+use Rattle.sg_pairs.specs.BridgeText.{bridge_outcome_line}
+use Rattle.sg_pairs.specs.Bridged.{Said, Happens, Joins, Parts, bridged_events, bridged_outcomes}
+use Rattle.sg_pairs.specs.Pairs.{Members}
+use Rattle.sg_pairs.specs.declared.lines.BridgeLine.{BridgeLine}
+use Rattle.sg_pairs.specs.declared.lines.BridgeLine.TheVariants as lines
+use Rattle.sg_pairs.specs.declared.outcomes.BridgeOutcome.{BridgeOutcome}
+use Rattle.sg_pairs.specs.declared.outcomes.BridgeOutcome.TheVariants as tells
 use Rattle.sg_relay.specs.Acting.{Acting}
 use Rattle.sg_relay.specs.Asked.{Act, Tells, act_of}
 use Rattle.sg_relay.specs.Plain as plain

@@ -3,7 +3,7 @@
 ghost use Rattle.std.specs.Prelude.{◌≡◌, ◌∷◌, [], ℕ, List, IfErr, map};
 ghost use Rattle.sg_edge.specs.Links.{Called, LinkCall};
 ghost use Rattle.sg_edge.specs.Told.{HasCause, Wrote};
-ghost use Rattle.sg_bridge.specs.BridgeText.{bridge_outcome_line};
+ghost use Rattle.sg_pairs.specs.BridgeText.{bridge_outcome_line};
 ghost use Rattle.sg_outcome.specs.OutcomeText.{outcome_line};
 ghost use Rattle.sg_relay.specs.Asked.{Sends, Tells, act_of, hold, ports_of};
 ghost use Rattle.sg_relay.specs.Joined.{act_of_bridge};
@@ -12,10 +12,10 @@ ghost use Rattle.sg_relay.specs.Parts.{AreCarriedOut, IsHeld};
 ghost use Rattle.sg_table.specs.Handling.{outcome_of};
 
 use sg_base::{Address, Failed, MEDIUM_PORTS};
-use sg_bridge::{BridgeOutcome, print_bridge};
 use sg_edge::{Link, Sink};
 use sg_gateway::port_at;
 use sg_outcome::Outcome;
+use sg_pairs::{BridgeOutcome, print_bridge};
 use sg_table::{End, Handled};
 use sg_trace::{Status, tell_at_once, write_at_once};
 use std::alloc::Global;

@@ -2,10 +2,10 @@
 //! from outside to a plain port of a joined call is dropped before the table.
 
 ghost use Rattle.std.specs.Prelude.{◌≡◌, ◌∷◌, [], ℕ, List, IfErr, OnOk};
-ghost use Rattle.sg_bridge.specs.Bridged.{told_and_parted};
-ghost use Rattle.sg_bridge.specs.Pairs.{after_outcome};
 ghost use Rattle.sg_edge.specs.Links.{Called, LinkCall};
 ghost use Rattle.sg_edge.specs.Told.{Wrote};
+ghost use Rattle.sg_pairs.specs.Bridged.{told_and_parted};
+ghost use Rattle.sg_pairs.specs.Pairs.{after_outcome};
 ghost use Rattle.sg_relay.specs.Causes.{IsDueTo, IsDueToLink, IsOfOutcomes};
 ghost use Rattle.sg_relay.specs.Joined.{act_of_bridge, acts_next, acts_of_all};
 ghost use Rattle.sg_relay.specs.Parts.{AreCarriedOut, ended_as};
@@ -14,10 +14,10 @@ ghost use Rattle.sg_switchboard.specs.Switching.{outcome_of};
 use crate::carrying_out::{carry_out, carry_out_bridge, send_out};
 use crate::exchange::{Exchange, Handling, handle_line};
 use sg_base::{Address, NoMemory, Pad};
-use sg_bridge::{BridgeLine, BridgeOutcome};
 use sg_edge::{Link, Noise, Sink};
 use sg_lines::{Line, Signal};
 use sg_outcome::Outcome;
+use sg_pairs::{BridgeLine, BridgeOutcome};
 use sg_switchboard::{Switchboard, Switched, SwitchedEnd};
 use sg_table::Outcomes;
 use sg_trace::Status;
@@ -25,7 +25,7 @@ use std::alloc::Global;
 
 impl Handling for Switchboard {
     ghost use Rattle.std.specs.Prelude.{refl};
-    ghost use Rattle.sg_bridge.specs.Bridged.{Said};
+    ghost use Rattle.sg_pairs.specs.Bridged.{Said};
     ghost use Rattle.sg_relay.specs.Joined.{acting, arrives, gives, happen_all, ticks, waits};
     ghost use Rattle.sg_switchboard.specs.Switching.{StandsFor, State};
 

@@ -1,8 +1,8 @@
 //! The law of a relay's ports: its contract is the law, and its body calls laws alone.
 
 ghost use Rattle.std.specs.Prelude.{Bool, List};
-ghost use Rattle.sg_bridge.specs.Bridged.{Said};
 ghost use Rattle.sg_gateway.specs.Step.{Event};
+ghost use Rattle.sg_pairs.specs.Bridged.{Said};
 ghost use Rattle.sg_relay.specs.Held.{PortsAreOfCalls};
 ghost use Rattle.sg_relay.specs.Joined as joined;
 ghost use Rattle.sg_relay.specs.Plain as plain;

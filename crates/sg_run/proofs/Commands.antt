@@ -1,9 +1,9 @@
 -- What a run did, by how its words were read.
 use Rattle.std.proofs.Common.{◌≡◌, ◌⊎◌, ℕ, List, [], Bool, map, Option, Result, Ok, Err, refl, sym, ap, ◌∙◌, subst, inl, inr, arith, true, false}
 use Rattle.std.proofs.lemmas.List.{append-nil}
-use Rattle.sg_bridge.specs.BridgeHolds.{BridgeHolds}
-use Rattle.sg_bridge.specs.Bridged.{Said}
-use Rattle.sg_bridging.specs.Bridge.{bridge_text, of_bridge}
+use Rattle.sg_pairs.specs.BridgeHolds.{BridgeHolds}
+use Rattle.sg_pairs.specs.Bridged.{Said}
+use Rattle.sg_bridge.specs.Bridge.{bridge_text, of_bridge}
 use Rattle.sg_trace.proofs.Ends.{nothing_run}
 use Rattle.sg_trace.specs.Causes.{EndedBy, HasFailed}
 use Rattle.sg_trace.specs.Loop.{Tellings}

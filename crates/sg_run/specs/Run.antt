@@ -1,9 +1,9 @@
 -- What a run did, by the command that its words are.
 use Rattle.std.specs.Prelude.{◌≡◌, ◌⊎◌, ◌≤◌, ◌+◌, ℕ, Bool, List, [], ⊤}
-use Rattle.sg_bridge.specs.BridgeHolds.{BridgeHolds}
-use Rattle.sg_bridge.specs.Bridged.{bridged_events}
-use Rattle.sg_bridging.specs.Bridge.{IsBridge, IsCompleteBridge, bridge_trace}
-use Rattle.sg_bridging.specs.Replayed.{IsPlayedAlike, JoinsNone}
+use Rattle.sg_pairs.specs.BridgeHolds.{BridgeHolds}
+use Rattle.sg_pairs.specs.Bridged.{bridged_events}
+use Rattle.sg_bridge.specs.Bridge.{IsBridge, IsCompleteBridge, bridge_trace}
+use Rattle.sg_bridge.specs.Replayed.{IsPlayedAlike, JoinsNone}
 use Rattle.sg_capture.specs.Capturing.{IsCapture, IsCompleteCapture}
 use Rattle.sg_trace.specs.Captured.{captured, captured_events}
 use Rattle.sg_trace.specs.Trace.{replayed}

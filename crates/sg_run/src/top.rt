@@ -24,13 +24,13 @@ ghost use Rattle.sg_run.specs.Run.{HasRun, LeavesOthersAlone, PlaysInBatches};
 ghost use Rattle.sg_words.specs.Commands.{IsNoCommand};
 
 use sg_audit::the_pages_hold;
-use sg_bridge::the_bridge_holds;
-use sg_bridging::{bridge, scripts_without_joins_are_replayed};
+use sg_bridge::{bridge, scripts_without_joins_are_replayed};
 use sg_capture::capture;
 use sg_demo::demo;
 use sg_edge::{Clock, Link, Noise, Sink, Source};
 use sg_lanes::Gate;
 use sg_migrate::{
+use sg_pairs::the_bridge_holds;
     migrate, migrated_scripts_are_of_version_two, migrated_scripts_tell_the_same,
     moments_of_datagrams_are_ticks,
 };

@@ -1,14 +1,14 @@
 -- What is told of a signal, outcome by outcome.
 use Rattle.std.proofs.Common.{◌≡◌, ◌<◌, ◌+◌, ℕ, Bool, false, cond, List, [], ◌∷◌, ◌++◌, length, take, drop, get_or, refl, sym, ap, ◌∙◌, subst, append_assoc}
 use Rattle.std.proofs.lemmas.List.{append-nil, take-append-drop, take_more}
-use Rattle.sg_bridge.specs.Bridged.{Following, Happens, bridging, told_and_parted}
-use Rattle.sg_bridge.specs.Pairs.{Members, after_outcome}
-use Rattle.sg_bridge.specs.declared.outcomes.BridgeOutcome.{BridgeOutcome}
 use Rattle.sg_gateway.specs.Events.{events_of_signal, outcomes_from, signal_lacks_noise, signal_of}
 use Rattle.sg_gateway.specs.Runs.{world_after}
 use Rattle.sg_gateway.specs.Step.{Event, Signalled, step}
 use Rattle.sg_lines.specs.declared.lines.Signal.{Signal}
 use Rattle.sg_outcome.specs.declared.outcomes.Outcome.{Outcome}
+use Rattle.sg_pairs.specs.Bridged.{Following, Happens, bridging, told_and_parted}
+use Rattle.sg_pairs.specs.Pairs.{Members, after_outcome}
+use Rattle.sg_pairs.specs.declared.outcomes.BridgeOutcome.{BridgeOutcome}
 use Rattle.sg_switchboard.specs.Switching.{StandsFor, State, SwitchboardValue, after, told_next}
 use Rattle.sg_table.specs.Standing.{TableStandsFor}
 use Rattle.sg_table.specs.Telling.{IsTold}

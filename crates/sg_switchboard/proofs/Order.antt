@@ -3,7 +3,7 @@ use Rattle.std.proofs.Common.{◌≡◌, List, [], ◌∷◌, ◌++◌, refl, ap
 use Rattle.std.proofs.lemmas.Grind.{flat_map-append}
 use Rattle.std.proofs.lemmas.List.{append-nil}
 use Rattle.std.specs.List.{flat_map}
-use Rattle.sg_bridge.specs.Bridged.{Bridging, Said, bridging, bridgings_from}
+use Rattle.sg_pairs.specs.Bridged.{Bridging, Said, bridging, bridgings_from}
 use Rattle.sg_switchboard.specs.Switching.{State, after, state_after, told_from}
 
 pub state_after-append : (s : State) (xs ys : List Said) → state_after s (xs ++ ys) ≡ state_after (state_after s xs) ys

@@ -1,14 +1,14 @@
 -- What a table whose calls may be joined tells, one thing that is said after the other.
 use Rattle.std.specs.Prelude.{◌≡◌, ℕ, List, [], ◌∷◌, option_to_list}
 use Rattle.std.specs.List.{flat_map}
-use Rattle.sg_bridge.specs.Bridged.{Bridging, Happens, Said, bridging, bridgings_from}
-use Rattle.sg_bridge.specs.Pairs.{Members, after_outcome, no_members}
-use Rattle.sg_bridge.specs.declared.outcomes.BridgeOutcome.{BridgeOutcome}
-use Rattle.sg_bridge.specs.declared.outcomes.BridgeOutcome.TheVariants as tells
 use Rattle.sg_gateway.specs.Step.{Event}
 use Rattle.sg_gateway.specs.World.{World, empty}
 use Rattle.sg_outcome.specs.declared.outcomes.Outcome.{Outcome}
 use Rattle.sg_outcome.specs.declared.outcomes.Outcome.TheVariants.{Dropped, Out}
+use Rattle.sg_pairs.specs.Bridged.{Bridging, Happens, Said, bridging, bridgings_from}
+use Rattle.sg_pairs.specs.Pairs.{Members, after_outcome, no_members}
+use Rattle.sg_pairs.specs.declared.outcomes.BridgeOutcome.{BridgeOutcome}
+use Rattle.sg_pairs.specs.declared.outcomes.BridgeOutcome.TheVariants as tells
 use Rattle.sg_switchboard.specs.declared.switched.Switched.{Switched}
 use Rattle.sg_switchboard.specs.declared.switched.SwitchedEnd.{SwitchedEnd}
 use Rattle.sg_switchboard.specs.declared.switched.SwitchedEnd.TheVariants as ends

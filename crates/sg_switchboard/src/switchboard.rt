@@ -1,8 +1,6 @@
 //! A table, and which of its calls are joined.
 
 ghost use Rattle.std.specs.Prelude.{◌≡◌, ◌∷◌, ◌≢◌, ◌≤◌, [], List, IfOk, OnErr, OnOk, false, true};
-ghost use Rattle.sg_bridge.specs.Bridged.{Joins, Parts, bridging, handed_on, passed};
-ghost use Rattle.sg_bridge.specs.Pairs.{after_outcome};
 ghost use Rattle.sg_gateway.specs.Early.{MayWant};
 ghost use Rattle.sg_gateway.specs.Events.{events_of_signal, outcomes_from, signal_lacks_noise, signal_of};
 ghost use Rattle.sg_gateway.specs.Octets.{as_octets};
@@ -10,6 +8,8 @@ ghost use Rattle.sg_gateway.specs.PlainOf.{plain_at};
 ghost use Rattle.sg_gateway.specs.Step.{Datagram, Event};
 ghost use Rattle.sg_gateway.specs.World.{World};
 ghost use Rattle.sg_lines.specs.declared.lines.Signal.TheVariants as signals;
+ghost use Rattle.sg_pairs.specs.Bridged.{Joins, Parts, bridging, handed_on, passed};
+ghost use Rattle.sg_pairs.specs.Pairs.{after_outcome};
 ghost use Rattle.sg_switchboard.specs.Switching.{HasBecome, IsSwitched, StandsFor, State, Tells, start};
 ghost use Rattle.sg_table.specs.Handling.{outcome_of as table_outcome_of};
 ghost use Rattle.sg_table.specs.Standing.{TableStandsFor};
@@ -17,9 +17,9 @@ ghost use Rattle.sg_table.specs.Telling.{IsTimely, IsTold};
 
 use crate::switched::{Switched, SwitchedEnd};
 use sg_base::{Address, CallId, DropCause, NoMemory, Pad};
-use sg_bridge::{Bridge, BridgeOutcome};
 use sg_lines::Signal;
 use sg_outcome::Outcome;
+use sg_pairs::{Bridge, BridgeOutcome};
 use sg_table::{End, Handled, Outcomes, Table};
 use std::alloc::Global;
 use std::marker::Model;

@@ -1,6 +1,6 @@
 //! What a bridge tells, read and printed.
 
-use sg_bridge::{print_bridge, read_bridge_outcome};
+use sg_pairs::{print_bridge, read_bridge_outcome};
 use std::alloc::Global;
 
 /// Whether the line is read, and printed again as it was.

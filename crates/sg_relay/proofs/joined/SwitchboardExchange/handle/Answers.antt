@@ -1,5 +1,5 @@
 use Rattle.std.proofs.Common.{[], ◌∷◌, sym, ap, subst}
-use Rattle.sg_bridge.specs.declared.lines.BridgeLine.{BridgeLine}
+use Rattle.sg_pairs.specs.declared.lines.BridgeLine.{BridgeLine}
 use Rattle.sg_relay.proofs.Common.{IsGiven, Joins, Parts, StandsFor, acting, added_none, gives}
 use Rattle.sg_relay.proofs.Gives.{given_so}
 use Rattle.sg_relay.proofs.Joins.{one_carried_out}

@@ -1,5 +1,0 @@
-use Rattle.sg_bridge.proofs.BothWays.{all_both_ways}
-use Rattle.sg_bridge.proofs.laws.joined_ports_go_both_ways.Goals as goal
-
-pub returns : goal.returns
-returns c = λ said. all_both_ways said

@@ -1,5 +1,0 @@
-use Rattle.sg_bridge.proofs.Lasting.{all_signals}
-use Rattle.sg_bridge.proofs.laws.signals_are_told.Goals as goal
-
-pub returns : goal.returns
-returns c = all_signals c.offers_fit_their_calls.ensures.count (λ es. (c.calls_in_order.ensures es).1)

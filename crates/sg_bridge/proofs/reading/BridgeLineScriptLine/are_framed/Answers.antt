@@ -1,5 +1,0 @@
-use Rattle.sg_bridge.proofs.BridgeFrames.{bridge_long, bridge_open, bridge_whole}
-use Rattle.sg_bridge.proofs.reading.BridgeLineScriptLine.are_framed.Goals as goal
-
-pub returns : goal.returns
-returns c = record { too_long = bridge_long; without_end = bridge_open; with_end = bridge_whole }

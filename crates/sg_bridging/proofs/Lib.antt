@@ -1,2 +1,0 @@
-mod Replayed
-mod Steps

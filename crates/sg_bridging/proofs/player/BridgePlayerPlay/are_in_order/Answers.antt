@@ -1,5 +1,0 @@
-use Rattle.sg_bridging.proofs.Steps.{in_order}
-use Rattle.sg_bridging.proofs.player.BridgePlayerPlay.are_in_order.Goals as goal
-
-pub returns : goal.returns
-returns g c = in_order

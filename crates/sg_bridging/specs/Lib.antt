@@ -1,3 +1,0 @@
-pub mod Bridge
-pub mod Replayed
-pub mod Steps

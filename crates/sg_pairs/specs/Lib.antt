@@ -1,0 +1,16 @@
+pub mod BridgeHolds
+pub mod BridgeLines
+pub mod BridgeOutcomeOf
+pub mod BridgeText
+pub mod Bridged
+pub mod Calls
+pub mod Faults
+pub mod Happening
+pub mod Joined
+pub mod Lasting
+pub mod Lost
+pub mod LostCauses
+pub mod Onward
+pub mod Pairs
+pub mod Telling
+pub mod Unjoined
