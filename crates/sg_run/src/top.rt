@@ -30,7 +30,6 @@ use sg_demo::demo;
 use sg_edge::{Clock, Link, Noise, Sink, Source};
 use sg_lanes::Gate;
 use sg_migrate::{
-use sg_pairs::the_bridge_holds;
     migrate, migrated_scripts_are_of_version_two, migrated_scripts_tell_the_same,
     moments_of_datagrams_are_ticks,
 };
@@ -38,6 +37,7 @@ use sg_mux::{
     legs_are_muxed_by_their_texts, ports_are_shared_as_told, shared_ports_are_faithful,
     told_texts_are_descriptions,
 };
+use sg_pairs::the_bridge_holds;
 use sg_passages::{a_plain_run_is_faithful, the_headline_holds};
 use sg_playback::{Workers, replay};
 use sg_relay::{RelayOptions, relay, relay_joined};
