@@ -1,14 +1,13 @@
 -- The keys that the ring is to take in are those of the sessions that the answer gives its call.
-use Rattle.std.proofs.Common.{◌≡◌, ℕ, ◌+◌, Bool, true, false, cond, not, List, [], ◌∷◌, ◌++◌, length, map, Option, Some, None, Ok, refl, sym, ap, ◌∙◌, subst, eqb}
+use Rattle.std.proofs.Common.{◌≡◌, inl, inr, arith, ℕ, ◌+◌, Bool, true, false, cond, not, List, [], ◌∷◌, ◌++◌, length, map, Option, Some, None, Ok, refl, sym, ap, ◌∙◌, subst, eqb}
 use Rattle.std.proofs.lemmas.List.{append-nil}
 use Rattle.std.specs.List.{AllByRecursion, Any, filter}
 use Rattle.sg_agreement.specs.Answers.{AgreedAnswer, agreed_answer}
 use Rattle.sg_agreement.specs.Generations.{owned}
 use Rattle.sg_agreement.specs.Offers.{AgreedOffer, agreed_offer}
 use Rattle.sg_outcome.specs.declared.outcomes.Outcome.TheVariants.{Sdp}
-use Rattle.sg_sdp.specs.declared.medium.Medium as descriptions
 use Rattle.sg_sdp.specs.declared.sdp.Sdp as sdp
-use Rattle.sg_gateway.proofs.Common.{AgreedKey, Call, CallId, Datagram, Event, FromSecure, MikeyFromPlain, SdesFromPlain, Installed, Key, Master, Medium, Offer, Opening, Owner, Pair, Rtcp, Rtp, Sealing, Session, Side, Signalled}
+use Rattle.sg_gateway.proofs.Common.{AgreedKey, Call, CallId, Datagram, Direction, Event, Installed, Key, Master, Medium, Offer, Opening, Owner, Pair, Rtcp, Rtp, Sealing, Session, Side, Signalled}
 use Rattle.sg_gateway.proofs.Common.{Stream, Turn, Way, World, after_turn, any_here, any_there, at_hand, both, call_at_tick, call_of, description_of, drops_earlier, each_append}
 use Rattle.sg_gateway.proofs.Common.{each_filter, each_map, each_weaker, has_port, is_idle, keys_from, none_some, numbered, offer_is, other_side, owner_at, same_id, sessions_from}
 use Rattle.sg_gateway.proofs.Common.{side_of, some_is, step, stream_session, stream_sessions, turn_of, without_call, without_earlier}
@@ -19,19 +18,22 @@ use Rattle.sg_gateway.proofs.CarriedOut.{found_with, id_found}
 use Rattle.sg_gateway.proofs.Kept.{WasOffered}
 use Rattle.sg_gateway.proofs.LineSessions.{masters_of}
 use Rattle.sg_gateway.proofs.Lists.{any_first, any_last}
+use Rattle.sg_gateway.proofs.MediaSessions.{each_stream}
 use Rattle.sg_gateway.proofs.Ordered.{InGeneration, generation_differ, generation_named}
-use Rattle.sg_gateway.proofs.Pairs.{pairs_to}
+use Rattle.sg_gateway.proofs.Pairs.{Pairs, pairs_append, pairs_to}
 use Rattle.sg_gateway.proofs.Signals.{each_and_call, each_with_call, found}
 use Rattle.sg_gateway.proofs.StepCases.{each_datagram, each_signal, settled_offer}
 use Rattle.sg_gateway.proofs.Taken.{found_new, same_id_itself}
 use Rattle.sg_gateway.specs.ByTexts.{AreByTexts}
 use Rattle.sg_gateway.specs.Order.{DifferInName}
 use Rattle.sg_gateway.specs.Signals.{Answer, Offered, Signal, answer_to, new_call}
-use Rattle.sg_conduct.proofs.Drawn.{AllAt, LinesOf, StreamHas, draws, offer_lines}
-use Rattle.sg_conduct.proofs.FirstLines.{FirstAt, OpensAs, offer_first, owns_answer, peers_answer, sessions_open, under_first}
+use Rattle.sg_conduct.proofs.Drawn.{LinesOf, draws, offer_lines}
+use Rattle.sg_conduct.proofs.Firsts.{by_first}
 use Rattle.sg_conduct.proofs.Partners.{new_partners}
-use Rattle.sg_conduct.specs.Brought.{AreBrought, IsOfAnswer, IsUnderFirst, Opens, PeersAreFirst, master_keys}
+use Rattle.sg_conduct.proofs.Present.{new_therein}
+use Rattle.sg_conduct.specs.Brought.{AreBrought, IsOfAnswer, Opens, StandsBefore, master_keys}
 use Rattle.sg_conduct.specs.Drawn.{AreDrawn}
+use Rattle.sg_conduct.specs.Firsts.{AreByFirstLines}
 
 -- ---- the keys of sessions
 
@@ -88,6 +90,48 @@ module _ (call generation : ℕ) where
       let later : List Session = sessions_from call generation (m + 1) n2 xs in
       each_append (λ s. s.name.owner.call ≡ call) opening (sealing ++ later) (stream_calls (owner_at call generation m Opening) (numbered n x.from_peer.keys) x.from_peer x.window x)
       (each_append (λ s. s.name.owner.call ≡ call) sealing later (stream_calls (owner_at call generation m Sealing) (numbered n1 x.to_peer.keys) x.to_peer 1024 x) (generation_calls (m + 1) n2 xs))
+
+  -- ---- their order
+
+  abbrev IsAt : ℕ → Direction → Session → Type 0
+  IsAt m direction s = (s.name.owner.medium ≡ m) × (s.name.owner.direction ≡ direction)
+
+  streams_at : (m : ℕ) (direction : Direction) (keys : List Key) (st : Stream) (window : ℕ) (x : Medium) → AllByRecursion (IsAt m direction) (stream_sessions (owner_at call generation m direction) keys st window x)
+  streams_at m direction keys st window x = each_stream (IsAt m direction) _ keys st window x (refl, refl) (λ on. (refl, refl))
+
+  streams_ordered : (m : ℕ) (direction : Direction) (keys : List Key) (st : Stream) (window : ℕ) (x : Medium) → Pairs StandsBefore (stream_sessions (owner_at call generation m direction) keys st window x)
+  streams_ordered m direction keys st window x = two x.has_rtcp
+    where
+      owner : Owner
+      owner = owner_at call generation m direction
+
+      two : (b : Bool) → Pairs StandsBefore (stream_session owner keys st window x Rtp st.encrypts_rtp st.tag_len ∷ cond b (stream_session owner keys st window x Rtcp st.encrypts_rtcp 10 ∷ []) [])
+      two true = ((inr (refl, λ opens. opens), tt), (tt, tt))
+      two false = (tt, tt)
+
+  -- the media behind this one
+  before_later : (m : ℕ) (direction : Direction) (s : Session) → IsAt m direction s → (later : List Session) → AllByRecursion (InGeneration generation (m + 1)) later → AllByRecursion (StandsBefore s) later
+  before_later m direction s at later are =
+      each_weaker (InGeneration generation (m + 1)) (StandsBefore s) (λ t p. inl (let e = at.0 in let le = p.1 in omega (arith, e, le))) later are
+
+  generation_ordered : (m n : ℕ) (xs : List (Option Medium)) → Pairs StandsBefore (sessions_from call generation m n xs)
+  generation_ordered m n [] = tt
+  generation_ordered m n (None ∷ xs) = generation_ordered (m + 1) n xs
+  generation_ordered m n (Some x ∷ xs) =
+      let n1 : ℕ = n + length x.from_peer.keys in
+      let n2 : ℕ = n1 + length x.to_peer.keys in
+      let opening : List Session = stream_sessions (owner_at call generation m Opening) (numbered n x.from_peer.keys) x.from_peer x.window x in
+      let sealing : List Session = stream_sessions (owner_at call generation m Sealing) (numbered n1 x.to_peer.keys) x.to_peer 1024 x in
+      let later : List Session = sessions_from call generation (m + 1) n2 xs in
+      let of_later : AllByRecursion (InGeneration generation (m + 1)) later = generation_named call generation (m + 1) n2 xs in
+      let of_sealing : AllByRecursion (IsAt m Sealing) sealing = streams_at m Sealing (numbered n1 x.to_peer.keys) x.to_peer 1024 x in
+      let of_opening : AllByRecursion (IsAt m Opening) opening = streams_at m Opening (numbered n x.from_peer.keys) x.from_peer x.window x in
+      pairs_append StandsBefore opening (sealing ++ later) (streams_ordered m Opening (numbered n x.from_peer.keys) x.from_peer x.window x)
+      (pairs_append StandsBefore sealing later (streams_ordered m Sealing (numbered n1 x.to_peer.keys) x.to_peer 1024 x) (generation_ordered (m + 1) n2 xs)
+      (each_weaker (IsAt m Sealing) (λ s. AllByRecursion (StandsBefore s) later) (λ s at. before_later m Sealing s at later of_later) sealing of_sealing))
+      (each_weaker (IsAt m Opening) (λ s. AllByRecursion (StandsBefore s) (sealing ++ later))
+      (λ s at. each_append (StandsBefore s) sealing later
+      (each_weaker (IsAt m Sealing) (StandsBefore s) (λ t is. inr (at.0 ∙ sym is.0, λ opens. at.1)) sealing of_sealing) (before_later m Opening s at later of_later)) opening of_opening)
 
 -- ---- the open offer
 
@@ -243,28 +287,21 @@ module _ (laws : Agreements) (ts : List Turn) (id : CallId) (o : Offer) (noise t
       subst (LinesOf made.way made.noise) made.same (subst (λ n. LinesOf made.way n made.accepted.offer) made.drawn (offer_lines made.hand made.way made.text made.accepted made.agreed)) in
       draws u id made.way made.noise before under o noise text made refl refl lines is_answered
 
-  firsts : (peers : List descriptions.Medium) → AllAt (λ k (x : Medium). StreamHas (FirstAt peers) k x.from_peer) 0 g.media → AllByRecursion (λ s. s.name.owner.direction ≡ Opening → IsUnderFirst peers s) new
-  firsts peers all = each_weaker (OpensAs (FirstAt peers)) (λ s. s.name.owner.direction ≡ Opening → IsUnderFirst peers s) (λ s has opens. under_first peers s (has opens)) new
-      (sessions_open (FirstAt peers) c.serial c.generations 0 0 g.media all)
-
-  first_of_way : (way : Way) (a : AgreedOffer) → agreed_offer made.hand way made.text ≡ Ok a → agreed_answer c.slot a.offer noise text ≡ Ok g → LinesOf way made.hand.noise a.offer → (answer : sdp.Sdp) → description_of text ≡ Ok answer
-      → PeersAreFirst way a.offer.description answer new
-  first_of_way FromSecure a e is lines answer read = λ none.
-      let p = offer_first made.hand made.text a e none in
-      firsts a.offer.description.media (peers_answer c.slot a.offer noise text g p.0 p.1 p.2 is)
-  first_of_way SdesFromPlain a e is lines answer read = firsts answer.media (owns_answer c.slot a.offer noise text g answer lines.0 lines.1 read is)
-  first_of_way (MikeyFromPlain peer) a e is lines answer read = tt
-
-  first : (answer : sdp.Sdp) → description_of text ≡ Ok answer → PeersAreFirst made.way o.description answer new
-  first answer read = subst (λ (o : Offer). PeersAreFirst made.way o.description answer new) made.same
-      (first_of_way made.way made.accepted made.agreed answered (offer_lines made.hand made.way made.text made.accepted made.agreed) answer read)
+  first : (answer : sdp.Sdp) → description_of text ≡ Ok answer → AreByFirstLines made.way made.noise o.description noise answer under
+  first answer read = subst (λ (o : Offer). AreByFirstLines made.way made.noise o.description noise answer under) made.same
+      (subst (λ (drawn : List ℕ). AreByFirstLines made.way drawn made.accepted.offer.description noise answer under) made.drawn
+      (by_first before under noise text answer read made.hand made.way made.text made.accepted made.agreed (subst (λ (o : Offer). IsAnswered before under o noise text) (sym made.same) is_answered)))
 
   of_answer : (answer : sdp.Sdp) → description_of text ≡ Ok answer → IsOfAnswer o answer under
   of_answer answer read = record {
+    number = c.generations;
+    current = refl;
     call = generation_calls c.serial c.generations 0 0 g.media;
-    generation = each_weaker _ _ (λ s (p : InGeneration c.generations 0 s). ap (λ g. g + 1) p.0) new (generation_named c.serial c.generations 0 0 g.media);
+    generation = each_weaker _ _ (λ s (p : InGeneration c.generations 0 s). p.0) new (generation_named c.serial c.generations 0 0 g.media);
     names = pairs_to DifferInName new (generation_differ c.serial c.generations 0 0 g.media);
+    order = pairs_to StandsBefore new (generation_ordered c.serial c.generations 0 0 g.media);
     partners = new_partners laws c.slot o noise text g answer (was_offered id o u by.4) agreed read c.serial c.generations 0;
+    present = new_therein laws c o noise text g answer (was_offered id o u by.4) agreed read 0;
   }
 
   pub keys_brought : AreBrought ts id o noise text (map (λ k. k.master) (keys_from c.serial c.generations 0 g.media))

@@ -1,28 +1,23 @@
--- What is opened by crypto lines is under the first line of the peer's medium that is read.
-use Rattle.std.proofs.Common.{◌≡◌, ◌⊎◌, inl, inr, ℕ, suc, ◌+◌, Bool, true, false, cond, List, [], ◌∷◌, ◌++◌, length, map, codes, Option, Some, None, Result, Ok, refl, sym, ap, ◌∙◌, subst, arith, eqb}
+-- The line that is taken of a peer's medium is the first crypto line of it that is read.
+use Rattle.std.proofs.Common.{◌≡◌, ◌⊎◌, inl, inr, ℕ, suc, ◌+◌, cond, List, [], ◌∷◌, ◌++◌, codes, Option, Some, None, Result, Ok, refl, sym, ap, ◌∙◌, subst, arith, eqb}
 use Rattle.std.specs.List.{AllByRecursion, cons_option, filter_map}
-use Rattle.sg_agreement.proofs.KeyedSound.{sdes_is}
 use Rattle.sg_agreement.proofs.TextLines.{active_some, behind_is, bind_is, has_none, if_same}
-use Rattle.sg_agreement.specs.Answers.{Answered as Keyings, AgreedAnswer, accepted_answer, agreed_answer, answered_by}
 use Rattle.sg_agreement.specs.Attributes.{behind, crypto_values, first_of, mikey_value}
 use Rattle.sg_agreement.specs.Described.{described}
-use Rattle.sg_agreement.specs.LineAnswers.{keyed_by_answer, keyed_by_matched, keyed_by_own_lines, keyed_by_peer_line, lines_matched}
-use Rattle.sg_agreement.specs.Offers.{AgreedOffer, agreed_offer, chosen_in, keying_by_messages, keying_of, noise_of}
+use Rattle.sg_agreement.specs.LineAnswers.{lines_matched}
+use Rattle.sg_agreement.specs.Offers.{AgreedOffer, agreed_offer, chosen_in, keying_by_messages, keying_of}
 use Rattle.sg_agreement.specs.TextLines.{HasNoMessage}
 use Rattle.sg_base.specs.declared.faults.SdesFault.TheVariants.{Tag, Suite}
-use Rattle.sg_sdes.specs.Answers.{answer_by, matched, same_suite}
+use Rattle.sg_sdes.specs.Answers.{matched, same_suite}
 use Rattle.sg_sdes.specs.CryptoOf.{crypto_of}
 use Rattle.sg_sdes.specs.Keys as lines
 use Rattle.sg_sdp.specs.declared.medium.Medium as descriptions
-use Rattle.sg_sdp.specs.declared.sdp.Sdp.{Sdp}
 use Rattle.std.specs.List.{find}
-use Rattle.sg_gateway.proofs.Common.{AtHand, CryptoLine, FromSecure, IsMediumAt, Keyed, Keying, Kind, Master, Medium, Offer, Opening, OwnLines, PeerLines, Plain, Refusal, Rtcp, Rtp, Sealing, Secure, Session, Side}
-use Rattle.sg_gateway.proofs.Common.{Stream, actives_after, after_ok, after_ok_is, described_is, description_of, each_active, each_append, each_kept, if_active, if_kept, is_active, keys_of}
-use Rattle.sg_gateway.proofs.Common.{media_agreed, none_some, numbered, of_sdes, ok_is, other_side, owner_at, sessions_from, stream_session, stream_sessions}
-use Rattle.sg_gateway.proofs.LineSessions.{masters_of}
-use Rattle.sg_conduct.proofs.Drawn.{AllAt, StreamHas, each_kept_at, kept_some, masters_mapped, some_at}
+use Rattle.sg_gateway.proofs.Common.{AtHand, CryptoLine, FromSecure, IsMediumAt, Keying, Offer, PeerLines, Refusal, Secure, Side}
+use Rattle.sg_gateway.proofs.Common.{after_ok, after_ok_is, each_active, if_active, is_active}
+use Rattle.sg_gateway.proofs.Common.{none_some, ok_is}
+use Rattle.sg_conduct.proofs.Drawn.{AllAt, some_at}
 use Rattle.sg_conduct.proofs.Forth.{first_line}
-use Rattle.sg_conduct.specs.Brought.{IsUnderFirst}
 use Rattle.sg_conduct.specs.Carried.{IsFirstLine}
 use Rattle.sg_conduct.specs.Causes.{HasNoValue, IsFirstValue}
 
@@ -99,85 +94,11 @@ module _ (all : List descriptions.Medium) where
       (some_at P k a.0 b.0 (λ x is. each k m x (at_head k m ms placed) (active_some (is_active side m) (value k m) x (a.1 ∙ ap Ok is)))
       (active_placed P side value each (k + 1) ms b.0 (at_rest k m ms placed) b.1))
 
-  kept_placed : {X Y : Type 0} (P : ℕ → Y → Type 0) (value : ℕ → X → descriptions.Medium → Result Y Refusal) → ((k : ℕ) (x : X) (n : descriptions.Medium) (y : Y) → IsMediumAt all k n → value k x n ≡ Ok y → P k y)
-      → (k : ℕ) (active : List Bool) (xs : List (Option X)) (ns : List descriptions.Medium) (ys : List (Option Y)) → Placed all k ns → each_kept value k active xs ns ≡ Ok ys → AllAt P k ys
-  kept_placed P value each k [] xs ns ys placed e = subst (AllAt P k) (ok_is [] ys e) tt
-  kept_placed P value each k (on ∷ active) [] ns ys placed e = subst (AllAt P k) (ok_is [] ys e) tt
-  kept_placed P value each k (on ∷ active) (x ∷ xs) [] ys placed e = subst (AllAt P k) (ok_is [] ys e) tt
-  kept_placed P value each k (on ∷ active) (x ∷ xs) (n ∷ ns) ys placed e =
-      let a = after_ok_is (if_kept on x (λ x. value k x n)) _ ys e in
-      let b = after_ok_is (each_kept value (k + 1) active xs ns) _ ys a.2 in
-      subst (AllAt P k) (ok_is (a.0 ∷ b.0) ys b.2)
-      (some_at P k a.0 b.0
-      (λ y is. let s = kept_some on x (λ x. value k x n) y (a.1 ∙ ap Ok is) in each k s.0 n y (at_head k n ns placed) s.2)
-      (kept_placed P value each (k + 1) active xs ns b.0 (at_rest k n ns placed) b.1))
-
--- ---- sessions that open
-
-module _ (P : ℕ → List Master → Type 0) where
-  media_open : (side : Side) (k : ℕ) (ms ns : List descriptions.Medium) (ks : List (Option Keyed)) → AllAt (λ k (y : Keyed). StreamHas P k y.from_peer) k ks
-      → AllAt (λ k (x : Medium). StreamHas P k x.from_peer) k (media_agreed side ms ns ks)
-  media_open side k [] ns ks all = tt
-  media_open side k (m ∷ ms) [] ks all = tt
-  media_open side k (m ∷ ms) (n ∷ ns) [] all = tt
-  media_open side k (m ∷ ms) (n ∷ ns) (None ∷ ks) all = media_open side (k + 1) ms ns ks all
-  media_open Secure k (m ∷ ms) (n ∷ ns) (Some y ∷ ks) all = (all.0, media_open Secure (k + 1) ms ns ks all.1)
-  media_open Plain k (m ∷ ms) (n ∷ ns) (Some y ∷ ks) all = (all.0, media_open Plain (k + 1) ms ns ks all.1)
-
-  abbrev pub OpensAs : Session → Type 0
-  OpensAs s = s.name.owner.direction ≡ Opening → P s.name.owner.medium (map (λ k. k.master) s.keys)
-
-  seals_else : Sealing ≡ Opening → ⊥
-  seals_else e = absurd cc
-
-  sealing_free : (call generation medium n : ℕ) (st : Stream) (window : ℕ) (x : Medium) → AllByRecursion OpensAs (stream_sessions (owner_at call generation medium Sealing) (numbered n st.keys) st window x)
-  sealing_free call generation medium n st window x = ((λ opens. absurd (seals_else opens)), go x.has_rtcp)
-    where
-      go : (b : Bool) → AllByRecursion OpensAs (cond b (stream_session (owner_at call generation medium Sealing) (numbered n st.keys) st window x Rtcp st.encrypts_rtcp 10 ∷ []) [])
-      go true = ((λ opens. absurd (seals_else opens)), tt)
-      go false = tt
-
-  opening_as : (call generation medium n : ℕ) (st : Stream) (window : ℕ) (x : Medium) → StreamHas P medium st → AllByRecursion OpensAs (stream_sessions (owner_at call generation medium Opening) (numbered n st.keys) st window x)
-  opening_as call generation medium n st window x has = (of_kind Rtp, go x.has_rtcp)
-    where
-      of_kind : (kind : Kind) → Opening ≡ Opening → P medium (map (λ k. k.master) (keys_of kind (numbered n st.keys)))
-      of_kind kind opens = subst (P medium) (sym (masters_of kind n st.keys)) has
-
-      go : (b : Bool) → AllByRecursion OpensAs (cond b (stream_session (owner_at call generation medium Opening) (numbered n st.keys) st window x Rtcp st.encrypts_rtcp 10 ∷ []) [])
-      go true = (of_kind Rtcp, tt)
-      go false = tt
-
-  pub sessions_open : (call generation k n : ℕ) (xs : List (Option Medium)) → AllAt (λ k (x : Medium). StreamHas P k x.from_peer) k xs → AllByRecursion OpensAs (sessions_from call generation k n xs)
-  sessions_open call generation k n [] all = tt
-  sessions_open call generation k n (None ∷ xs) all = sessions_open call generation (k + 1) n xs all
-  sessions_open call generation k n (Some x ∷ xs) all =
-      each_append OpensAs (stream_sessions (owner_at call generation k Opening) (numbered n x.from_peer.keys) x.from_peer x.window x) _ (opening_as call generation k n x.from_peer x.window x all.0)
-      (each_append OpensAs (stream_sessions (owner_at call generation k Sealing) (numbered (n + length x.from_peer.keys) x.to_peer.keys) x.to_peer 1024 x) _
-      (sealing_free call generation k (n + length x.from_peer.keys) x.to_peer 1024 x)
-      (sessions_open call generation (k + 1) (n + length x.from_peer.keys + length x.to_peer.keys) xs all.1))
-
 -- ---- by lines
 
 -- a line that is the first of the medium of this number
 abbrev pub IsFirstAt : List descriptions.Medium → ℕ → CryptoLine → Type 0
 IsFirstAt peers k l = (m : descriptions.Medium) × IsMediumAt peers k m × IsFirstLine m.lines l
-
--- keys of such a line
-abbrev pub FirstAt : List descriptions.Medium → ℕ → List Master → Type 0
-FirstAt peers k masters = (l : CryptoLine) × IsFirstAt peers k l × (masters ≡ map (λ k. k.key) l.keys)
-
-pub under_first : (peers : List descriptions.Medium) (s : Session) → FirstAt peers s.name.owner.medium (map (λ k. k.master) s.keys) → IsUnderFirst peers s
-under_first peers s is = record { medium = is.1.0; in_peers = is.1.1; line = is.0; is_first = is.1.2; masters = is.2 }
-
-peers_first : (peers : List descriptions.Medium) (noise : List ℕ) (k : ℕ) (peer : CryptoLine) (n : descriptions.Medium) (y : Keyed) → IsFirstAt peers k peer → keyed_by_peer_line noise k peer n ≡ Ok y → StreamHas (FirstAt peers) k y.from_peer
-peers_first peers noise k peer n y is e =
-    subst (λ (y : Keyed). StreamHas (FirstAt peers) k y.from_peer) (ok_is (keyed_by_answer peer (answer_by peer (noise_of k noise))) y e) (peer, is, masters_mapped peer)
-
-owns_first : (peers : List descriptions.Medium) (k : ℕ) (offered : List CryptoLine) (n : descriptions.Medium) (y : Keyed) → IsMediumAt peers k n → keyed_by_own_lines k offered n ≡ Ok y → StreamHas (FirstAt peers) k y.from_peer
-owns_first peers k offered n y at e =
-    let a = after_ok_is (of_sdes k (lines_matched offered (first_of (crypto_values n.lines)))) _ y e in
-    let first = first_matched offered n.lines a.0 (sdes_is k (lines_matched offered (first_of (crypto_values n.lines))) a.0 a.1) in
-    subst (λ (y : Keyed). StreamHas (FirstAt peers) k y.from_peer) (ok_is (keyed_by_matched a.0) y a.2) (a.0.1, (n, at, first), masters_mapped a.0.1)
 
 -- the offer of the secure side, without a message
 pub offer_first : (h : AtHand) (text : List ℕ) (a : AgreedOffer) → agreed_offer h FromSecure text ≡ Ok a → HasNoMessage a.offer.description
@@ -196,31 +117,3 @@ offer_first h text a e none =
       sym (ok_is (PeerLines b.0) q.0 b.2),
       active_placed p.0.media (IsFirstAt p.0.media) Secure chosen_in (λ k m l at chosen. (m, at, first_line k m l chosen)) 0 p.0.media b.0 (at_start p.0.media) b.1,
     )
-
-pub peers_answer : (slot : ℕ) (o : Offer) (noise text : List ℕ) (g : AgreedAnswer) (ls : List (Option CryptoLine)) → o.keying ≡ PeerLines ls → AllAt (IsFirstAt o.description.media) 0 ls → agreed_answer slot o noise text ≡ Ok g
-    → AllAt (λ k (x : Medium). StreamHas (FirstAt o.description.media) k x.from_peer) 0 g.media
-unfolding agreed_answer
-peers_answer slot o noise text g ls keyed firsts e =
-    let p = after_ok_is (described (other_side o.side) (Some (length o.description.media)) text) _ g e in
-    let active : List Bool = actives_after o.side o.description.media p.0.media in
-    let q = after_ok_is (answered_by o noise p.0 active o.keying) _ g p.2 in
-    let r = after_ok_is (each_kept (keyed_by_peer_line noise) 0 active ls p.0.media) _ q.0 (ap (answered_by o noise p.0 active) (sym keyed) ∙ q.1) in
-    let all = each_kept_at (IsFirstAt o.description.media) (λ k (y : Keyed). StreamHas (FirstAt o.description.media) k y.from_peer) (keyed_by_peer_line noise) (λ k x n y u v. peers_first o.description.media noise k x n y u v) 0 active ls p.0.media r.0 firsts r.1 in
-    let media : AllAt (λ k (y : Keyed). StreamHas (FirstAt o.description.media) k y.from_peer) 0 q.0.media = subst (λ (a : Keyings). AllAt (λ k (y : Keyed). StreamHas (FirstAt o.description.media) k y.from_peer) 0 a.media) (ok_is _ q.0 r.2) all in
-    subst (λ (g : AgreedAnswer). AllAt (λ k (x : Medium). StreamHas (FirstAt o.description.media) k x.from_peer) 0 g.media) (ok_is (accepted_answer slot o p.0 active q.0) g q.2)
-    (media_open (FirstAt o.description.media) o.side 0 o.description.media p.0.media q.0.media media)
-
-pub owns_answer : (slot : ℕ) (o : Offer) (noise text : List ℕ) (g : AgreedAnswer) (answer : Sdp) (ls : List (Option (List CryptoLine))) → o.keying ≡ OwnLines ls → description_of text ≡ Ok answer → agreed_answer slot o noise text ≡ Ok g
-    → AllAt (λ k (x : Medium). StreamHas (FirstAt answer.media) k x.from_peer) 0 g.media
-unfolding agreed_answer
-owns_answer slot o noise text g answer ls keyed read e =
-    let p = after_ok_is (described (other_side o.side) (Some (length o.description.media)) text) _ g e in
-    let same : p.0 ≡ answer = ok_is p.0 answer (sym (described_is (other_side o.side) (Some (length o.description.media)) text p.0 p.1) ∙ read) in
-    let active : List Bool = actives_after o.side o.description.media p.0.media in
-    let q = after_ok_is (answered_by o noise p.0 active o.keying) _ g p.2 in
-    let r = after_ok_is (each_kept keyed_by_own_lines 0 active ls p.0.media) _ q.0 (ap (answered_by o noise p.0 active) (sym keyed) ∙ q.1) in
-    let all = kept_placed p.0.media (λ k (y : Keyed). StreamHas (FirstAt p.0.media) k y.from_peer) keyed_by_own_lines (λ k x n y u v. owns_first p.0.media k x n y u v) 0 active ls p.0.media r.0 (at_start p.0.media) r.1 in
-    let media : AllAt (λ k (y : Keyed). StreamHas (FirstAt p.0.media) k y.from_peer) 0 q.0.media = subst (λ (a : Keyings). AllAt (λ k (y : Keyed). StreamHas (FirstAt p.0.media) k y.from_peer) 0 a.media) (ok_is _ q.0 r.2) all in
-    subst (λ (s : Sdp). AllAt (λ k (x : Medium). StreamHas (FirstAt s.media) k x.from_peer) 0 g.media) same
-    (subst (λ (g : AgreedAnswer). AllAt (λ k (x : Medium). StreamHas (FirstAt p.0.media) k x.from_peer) 0 g.media) (ok_is (accepted_answer slot o p.0 active q.0) g q.2)
-    (media_open (FirstAt p.0.media) o.side 0 o.description.media p.0.media q.0.media media))

@@ -259,7 +259,7 @@ are_first Goes peers c d o noise text a all =
     (of_generation c d (sessions_from c.serial c.generations 0 a.number a.agreement.media) (IsByFirst Goes peers) a.sessions a.generations (sessions_by Goes peers c.serial c.generations 0 a.number a.agreement.media all))
 
 module _ (c d : Call) (noise text : List ℕ) (answer : Sdp) (read : description_of text ≡ Ok answer) where
-  by_first : (h : AtHand) (way : Way) (offered : List ℕ) (g : AgreedOffer) → agreed_offer h way offered ≡ Ok g → IsAnswered c d g.offer noise text → AreByFirstLines way h.noise g.offer.description noise answer d
+  pub by_first : (h : AtHand) (way : Way) (offered : List ℕ) (g : AgreedOffer) → agreed_offer h way offered ≡ Ok g → IsAnswered c d g.offer noise text → AreByFirstLines way h.noise g.offer.description noise answer d
   by_first h FromSecure offered g e a = λ none.
       let p = offer_first h offered g e none in
       are_first (AnswersIt noise) g.offer.description.media c d g.offer noise text a (peers_agree c.slot g.offer noise text a.agreement p.0 p.1 p.2 a.agreed)

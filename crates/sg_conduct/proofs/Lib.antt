@@ -23,6 +23,7 @@ mod Present
 mod Printed
 mod Refusals
 pub mod Sealings
+mod Served
 mod Serving
 mod Settling
 mod Shown

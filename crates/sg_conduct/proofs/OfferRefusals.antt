@@ -36,7 +36,8 @@ use Rattle.sg_sdes.specs.Answers.{chosen_of, offered_by, or_next}
 use Rattle.sg_sdes.specs.CryptoOf.{crypto_of}
 use Rattle.sg_sdp.specs.declared.medium.Medium as descriptions
 use Rattle.sg_sdp.specs.declared.sdp.Sdp.{Sdp}
-use Rattle.sg_gateway.proofs.Authentic.{find_any, initial_parts, message_read, none_unless}
+use Rattle.sg_session.proofs.Inversions.{ok_is, stop_if_is}
+use Rattle.sg_gateway.proofs.Authentic.{find_any, initial_parts, message_read, none_unless, unless_is}
 use Rattle.sg_gateway.proofs.Common.{Books, Call, CallId, CryptoLine, CsEntry, FromSecure, Message, MikeyFromPlain, Pair, Plain, Refusal, SdesFromPlain, Secure, Side, StreamKeys, Tgk, Way, World}
 use Rattle.sg_gateway.proofs.Common.{active_count, after_ok, after_ok_is, any_cases, any_here, any_none, any_there, any_weaker, at_hand, each_active, each_of, each_weaker}
 use Rattle.sg_gateway.proofs.Common.{if_active, is_active, none_some, of_cs, of_message, of_psk, or_refusal, pair_with, same_octets, same_octets_is, same_octets_true, side_of, some_is}
@@ -49,9 +50,10 @@ use Rattle.sg_conduct.proofs.Causes.{after_ok_err, err_is, message_err, message_
 use Rattle.sg_conduct.proofs.Forth.{find_first, first_line}
 use Rattle.sg_conduct.proofs.Offers.{active_takes}
 use Rattle.sg_conduct.proofs.Present.{takes_active}
-use Rattle.sg_conduct.specs.Offers.{Describes, HasPolicy, IsFirstNamed}
+use Rattle.sg_conduct.proofs.Served.{sessions_serve}
+use Rattle.sg_conduct.specs.Offers.{Describes, HasPolicy, IsAcceptable, IsFirstNamed}
 use Rattle.sg_conduct.specs.Present.{TakesPart}
-use Rattle.sg_conduct.specs.Refusals.{CarryAccepted, FitsCall, HasCode, IsAccepted, IsFirstAfter, IsGenuine, IsNotAccepted, IsNotedIn, IsOfAlgorithms, IsPart, IsThere, IsToCarry, OfferSpeaks, PskSpeaks, SessionsSpeak, apart}
+use Rattle.sg_conduct.specs.Refusals.{FitsCall, HasCode, IsAccepted, IsFirstAfter, IsGenuine, IsNotAccepted, IsNotedIn, IsOfAlgorithms, IsPart, IsThere, IsToCarry, OfferSpeaks, PskSpeaks, SessionsSpeak, apart}
 
 find_none : {X : Type 0} (test : X → Bool) (xs : List X) → find test xs ≡ None → AllByRecursion (λ x. test x ≡ false) xs
 find_none test [] e = tt
@@ -60,6 +62,10 @@ find_none test (x ∷ xs) e = go (find_none test xs) (test x) refl e
     go : (find test xs ≡ None → AllByRecursion (λ x. test x ≡ false) xs) → (b : Bool) → test x ≡ b → cond b (Some x) (find test xs) ≡ None → (test x ≡ false) × AllByRecursion (λ x. test x ≡ false) xs
     go rest true is e = absurd cc
     go rest false is e = (is, rest e)
+
+none_any : {X : Type 0} (P : X → Type 0) (xs : List X) → ¬ Any P xs → AllByRecursion (λ x. ¬ P x) xs
+none_any P [] none = tt
+none_any P (x ∷ xs) none = ((λ p. none (any_here P x xs p)), none_any P xs (λ any. none (any_there P x xs any)))
 
 -- ---- the first medium that refuses
 
@@ -315,6 +321,10 @@ cs_err : {X : Type 0} (k : ℕ) (r : Result X CsFault) (c : Refusal) → of_cs k
 cs_err k (Ok x) c e = absurd (ok_err x c e)
 cs_err {X} k (Err fault) c e = (fault, refl, err_is {X = X} (causes.Cs k fault) c e)
 
+cs_ok : {X : Type 0} (k : ℕ) (r : Result X CsFault) (x : X) → of_cs k r ≡ Ok x → r ≡ Ok x
+cs_ok k (Ok y) x e = ap Ok (ok_is y x e)
+cs_ok k (Err fault) x e = absurd cc
+
 bind_none : {A B : Type 0} (o : Option A) (f : A → Option B) → (o >>= f) ≡ None → (o ≡ None) ⊎ ((x : A) × (o ≡ Some x) × (f x ≡ None))
 bind_none None f e = inl refl
 bind_none (Some x) f e = inr (x, refl, e)
@@ -394,19 +404,61 @@ module _ (w : World) (id : CallId) (c : Call) (noise : List ℕ) (way : Way) (te
   abbrev Cause : Refusal → Type 0
   Cause cause = OfferSpeaks w id way text cause
 
+  -- where it is accepted there is room: CacheFull is told before its crypto sessions are looked at
+  has_room : (octets : List ℕ) (m : Message) (a : Accepted) → initial_of octets m w.books.pairs w.books.noted w.moment ≡ Ok a
+      → length w.books.noted ≤ 1020
+  unfolding initial_of initial_under with_keys
+  has_room octets m a e =
+      let i = initial_parts octets m w.books.pairs w.books.noted w.moment a e in
+      let kept = length w.books.noted in
+      let under = unless_is (fault_of octets m i.0 w.books.noted w.moment) (with_keys m i.0 kept (keys_in m i.0)) a
+      (ap (initial_under octets m w.books.noted w.moment) (sym i.1) ∙ e) in
+      let room = stop_if_is (ltb 1020 kept) faults.CacheFull (Ok (accepted_with m i.0 i.3)) a (ap (with_keys m i.0 kept) (sym i.4) ∙ under.1) in
+      ltb-false 1020 kept room.0
+
   accepted : (octets : List ℕ) (m : Message) (a : Accepted) → initial_of octets m w.books.pairs w.books.noted w.moment ≡ Ok a → IsAccepted w octets m
   unfolding keys_in
   accepted octets m a e =
       let i = initial_parts octets m w.books.pairs w.books.noted w.moment a e in
-      (i.0, first_named w.books.pairs (names_in m.payloads) i.0 i.1, genuine w.books w.moment octets m i.0 i.2, (λ none. none_some i.3 (sym none ∙ i.4)))
+      let held = first_named w.books.pairs (names_in m.payloads) i.0 i.1 in
+      (i.0, held, genuine w.books w.moment octets m i.0 i.2, (λ none. none_some i.3 (sym none ∙ i.4)), has_room octets m a e)
 
-  carries_accepted : (k : ℕ) (m : descriptions.Medium) (b : Bundle) → bundle_in hand k 1 (mikey_value m.lines) ≡ Ok b → CarryAccepted w m.lines
-  unfolding bundle_in
-  carries_accepted k m b e =
+  abbrev Acceptable : descriptions.Medium → Type 0
+  Acceptable m = IsAcceptable w.books w.moment m.lines 1
+
+  carries_acceptable : (k : ℕ) (m : descriptions.Medium) (b : Bundle) → bundle_in hand k 1 (mikey_value m.lines) ≡ Ok b → Acceptable m
+  unfolding bundle_in keys_in
+  carries_acceptable k m b e =
       let p = after_ok_is (message_in k 0 (mikey_value m.lines)) _ b e in
       let q = after_ok_is (of_psk k (initial_of p.0.0 p.0.1 w.books.pairs w.books.noted w.moment)) _ b p.2 in
+      let r = after_ok_is (of_cs k (streams_of q.0.csb q.0.random q.0.map q.0.policies q.0.tgks 1)) _ b q.2 in
       let is = message_read k 0 (mikey_value m.lines) p.0 p.1 in
-      (p.0.0, p.0.1, octets_carried m.lines p.0.0 is.0, (is.1, is.2), accepted p.0.0 p.0.1 q.0 (psk_is k _ q.0 q.1))
+      let taken = psk_is k _ q.0 q.1 in
+      let i = initial_parts p.0.0 p.0.1 w.books.pairs w.books.noted w.moment q.0 taken in
+      let made : Accepted = accepted_with p.0.1 i.0 i.3 in
+      let at : streams_of made.csb made.random made.map made.policies made.tgks 1 ≡ Ok r.0 =
+      subst (λ (a : Accepted). streams_of a.csb a.random a.map a.policies a.tgks 1 ≡ Ok r.0) (sym i.5) (cs_ok k _ r.0 r.1) in
+      let g = genuine w.books w.moment p.0.0 p.0.1 i.0 i.2 in
+      let serves = sessions_serve made.csb made.random made.policies made.tgks made.map 1 r.0 at in
+      record {
+        octets = p.0.0;
+        carried = octets_carried m.lines p.0.0 is.0;
+        message = p.0.1;
+        read = is.1;
+        kind = is.2;
+        pair = i.0;
+        held = first_named w.books.pairs (names_in p.0.1.payloads) i.0 i.1;
+        cipher = g.algorithms.0;
+        mac = g.algorithms.1;
+        code = g.code;
+        near = g.near;
+        new = none_any _ w.books.noted g.new;
+        room = has_room p.0.0 p.0.1 q.0 taken;
+        tgks = i.3;
+        keys = i.4;
+        sessions = serves.0;
+        policies = serves.1;
+      }
 
   module _ (medium : ℕ) (x : IsToCarry w id way text medium) (cause : Refusal) where
     none_in : message_in medium 0 (mikey_value x.lines) ≡ Err cause → Cause cause
@@ -465,8 +517,8 @@ module _ (w : World) (id : CallId) (c : Call) (noise : List ℕ) (way : Way) (te
     ]
     messages_refused is has None at e = elim (after_ok_err (each_active Secure (λ k m. bundle_in hand k 1 (mikey_value m.lines)) 0 s.media) _ cause e) [
       | inl fails ↦
-          let stop = media_stop (λ k m. bundle_in hand k 1 (mikey_value m.lines)) (λ m. CarryAccepted w m.lines) carries_accepted cause 0 s.media fails in
-          let first = first_after (λ k m. bundle_in hand k 1 (mikey_value m.lines)) (λ m. CarryAccepted w m.lines) carries_accepted cause s.media stop in
+          let stop = media_stop (λ k m. bundle_in hand k 1 (mikey_value m.lines)) Acceptable carries_acceptable cause 0 s.media fails in
+          let first = first_after (λ k m. bundle_in hand k 1 (mikey_value m.lines)) Acceptable carries_acceptable cause s.media stop in
           bundle_refused stop.number (carries is stop.number stop.m.lines 1 (inr (no_value s.session (ap is_some at), some_medium s has at, (stop.m, first, refl, refl)))) cause stop.gives
       | inr y ↦ absurd (ok_err _ cause y.2)
     ]

@@ -19,7 +19,7 @@ use Rattle.sg_gateway.proofs.Kept.{IsOffered, WasOffered}
 use Rattle.sg_gateway.proofs.Signals.{found}
 use Rattle.sg_gateway.specs.Signals.{Answered, answer_to}
 use Rattle.sg_gateway.proofs.Lists.{any_first, any_second}
-use Rattle.sg_conduct.specs.Present.{HasProfileOf, HasSession, HasSessions, TakesPart}
+use Rattle.sg_conduct.specs.Present.{HasProfileOf, HasSession, HasSessions, MediaHaveSessions, TakesPart}
 
 -- ---- what takes part is active
 
@@ -172,26 +172,27 @@ module _ (call generation : ℕ) (a b : descriptions.Medium) where
 
 -- ---- an answer
 
-abbrev pub AreTherein : Offer → Sdp → ℕ → Call → Type 0
-AreTherein o answer generation d =
-    (medium : ℕ) (m n : descriptions.Medium) → IsMediumAt o.description.media medium m → IsMediumAt answer.media medium n
-    → TakesPart o.side m → TakesPart (other_side o.side) n → HasSessions d.sessions d.serial generation medium m n
+-- the sessions that are made of an answer
+pub new_therein : (laws : Agreements) (c : Call) (o : Offer) (noise text : List ℕ) (g : AgreedAnswer) (answer : Sdp) → WasOffered o → agreed_answer c.slot o noise text ≡ Ok g → description_of text ≡ Ok answer
+    → (number : ℕ) → MediaHaveSessions o answer c.generations (record c { generations = c.generations + 1; sessions = sessions_from c.serial c.generations 0 number g.media })
+new_therein laws c o noise text g answer was agreed read number medium m n in_offer in_answer takes answers =
+    let are = answer_there laws c.slot o noise text g answer was agreed read in
+    subst (λ (k : ℕ). HasSessions (sessions_from c.serial c.generations 0 number g.media) c.serial c.generations k m n) (let e : 0 + medium ≡ medium = omega arith in e)
+    (sessions_there c.serial c.generations m n o.side takes answers o.description.media answer.media g.media are medium in_offer in_answer 0 number)
 
 module _ (laws : Agreements) (w : World) (offered_are : AllByRecursion (λ c. IsOffered c.offer) w.calls) (id : CallId) (noise text : List ℕ) (c : Call) (o : Offer)
     (is : call_of w id ≡ Some c) (open_one : c.offer ≡ Some o) (answer : Sdp) (read : description_of text ≡ Ok answer) where
   was : WasOffered o
   was = subst IsOffered open_one (found (λ c. IsOffered c.offer) (λ x. same_id x.id id) w.calls c is offered_are)
 
-  therein : (d : Call) → IsAnswered c d o noise text → AreTherein o answer c.generations d
+  therein : (d : Call) → IsAnswered c d o noise text → MediaHaveSessions o answer c.generations d
   therein d a medium m n in_offer in_answer takes answers =
-      let are = answer_there laws c.slot o noise text a.agreement answer was a.agreed read in
       let new : List Session = sessions_from c.serial c.generations 0 a.number a.agreement.media in
       let old : List Session = filter (stays c) c.sessions in
       subst (λ (n' : ℕ). HasSessions d.sessions n' c.generations medium m n) (sym a.serial)
       (subst (λ (ss : List Session). HasSessions ss c.serial c.generations medium m n) (sym a.sessions)
       (behind c.serial c.generations m n medium new old
-      (subst (λ (k : ℕ). HasSessions new c.serial c.generations k m n) (let e : 0 + medium ≡ medium = omega arith in e)
-      (sessions_there c.serial c.generations m n o.side takes answers o.description.media answer.media a.agreement.media are medium in_offer in_answer 0 a.number))))
+      (new_therein laws c o noise text a.agreement answer was a.agreed read a.number medium m n in_offer in_answer takes answers)))
 
-  pub answer_therein : (d : Call) → call_of (answer_to w (Answered id noise text)).world id ≡ Some d → d.generations ≡ c.generations + 1 → AreTherein o answer c.generations d
+  pub answer_therein : (d : Call) → call_of (answer_to w (Answered id noise text)).world id ≡ Some d → d.generations ≡ c.generations + 1 → MediaHaveSessions o answer c.generations d
   answer_therein d at more = therein d (answered_now w id noise text c o is open_one d at more)

@@ -1,30 +1,24 @@
 -- The keys that an answer brings into use where it isn't refused: the master keys of the sessions that it gives its call.
-use Rattle.std.specs.Prelude.{◌≡◌, ℕ, ◌+◌, List, [], map, Some, Ok}
+use Rattle.std.specs.Prelude.{◌≡◌, ◌⊎◌, ◌<◌, ℕ, ◌+◌, List, [], map, Some, Ok}
 use Rattle.std.specs.List.{AllByRecursion, AllPairs, Any, flat_map}
 use Rattle.sg_agreement.specs.Keying.{Offer}
 use Rattle.sg_agreement.specs.Sides.{other_side}
-use Rattle.sg_agreement.specs.TextLines.{HasNoMessage}
-use Rattle.sg_agreement.specs.declared.ways.Way.{Way}
-use Rattle.sg_agreement.specs.declared.ways.Way.TheVariants.{FromSecure, SdesFromPlain, MikeyFromPlain}
 use Rattle.sg_base.specs.Keys.{Master}
 use Rattle.sg_base.specs.declared.addresses.CallId.{CallId}
 use Rattle.sg_base.specs.declared.addresses.Kind.{Kind}
 use Rattle.sg_base.specs.declared.addresses.Kind.TheVariants.{Rtp, Rtcp}
 use Rattle.sg_outcome.specs.declared.outcomes.Outcome.TheVariants as outcomes
-use Rattle.sg_sdes.specs.declared.lines.CryptoLine.{CryptoLine}
 use Rattle.sg_sdp.specs.Reading.{description_of}
-use Rattle.sg_sdp.specs.declared.medium.Medium as descriptions
 use Rattle.sg_sdp.specs.declared.sdp.Sdp.{Sdp}
 use Rattle.sg_session.specs.Session.{Session}
 use Rattle.sg_session.specs.declared.names.Direction.TheVariants.{Opening}
-use Rattle.sg_gateway.specs.Addressed.{IsMediumAt}
 use Rattle.sg_gateway.specs.ByTexts.{AreByTexts}
 use Rattle.sg_gateway.specs.Order.{DifferInName}
 use Rattle.sg_gateway.specs.Runs.{Turn, after_turn}
 use Rattle.sg_gateway.specs.World.{Call, call_of}
-use Rattle.sg_conduct.specs.Carried.{IsFirstLine}
 use Rattle.sg_conduct.specs.Drawn.{AreDrawn, IsOfferOf}
-use Rattle.sg_conduct.specs.Present.{IsOfPartners}
+use Rattle.sg_conduct.specs.Firsts.{AreByFirstLines}
+use Rattle.sg_conduct.specs.Present.{IsOfPartners, MediaHaveSessions}
 
 -- ---- the open offer
 
@@ -39,26 +33,23 @@ pub record Opens (u : Turn) (id : CallId) (o : Offer) : Type 0 where
 
 -- ---- the sessions
 
--- All sessions of the call are of one generation, no two of one name, each of a medium that takes part in both texts.
+-- the session stands before the other: of an earlier medium, or of the same one, where what opens is before what seals
+abbrev pub StandsBefore : Session → Session → Type 0
+StandsBefore s t =
+    (s.name.owner.medium < t.name.owner.medium)
+    ⊎ ((s.name.owner.medium ≡ t.name.owner.medium) × (t.name.owner.direction ≡ Opening → s.name.owner.direction ≡ Opening))
+
+-- The call's sessions are those of its current generation alone, no two of one name, in their order: those of each medium that
+-- takes part in both texts, and of no other.
 pub record IsOfAnswer (o : Offer) (answer : Sdp) (d : Call) : Type 0 where
+  pub number : ℕ
+  pub current : d.generations ≡ number + 1
   pub call : AllByRecursion (λ s. s.name.owner.call ≡ d.serial) d.sessions
-  pub generation : AllByRecursion (λ s. s.name.owner.generation + 1 ≡ d.generations) d.sessions
+  pub generation : AllByRecursion (λ s. s.name.owner.generation ≡ number) d.sessions
   pub names : AllPairs DifferInName d.sessions
+  pub order : AllPairs StandsBefore d.sessions
   pub partners : AllByRecursion (IsOfPartners o.side o.description.media answer.media) d.sessions
-
--- Its keys are those of the first crypto line of its medium that is read.
-pub record IsUnderFirst (peers : List descriptions.Medium) (s : Session) : Type 0 where
-  pub medium : descriptions.Medium
-  pub in_peers : IsMediumAt peers s.name.owner.medium medium
-  pub line : CryptoLine
-  pub is_first : IsFirstLine medium.lines line
-  pub masters : map (λ k. k.master) s.keys ≡ map (λ k. k.key) line.keys
-
--- so what the peer sends: of the offer where it offered lines (RFC 4568, 5.1.2), and of the answer to the gateway's (5.1.3)
-abbrev pub PeersAreFirst : Way → Sdp → Sdp → List Session → Type 0
-PeersAreFirst FromSecure offer answer sessions = HasNoMessage offer → AllByRecursion (λ s. s.name.owner.direction ≡ Opening → IsUnderFirst offer.media s) sessions
-PeersAreFirst SdesFromPlain offer answer sessions = AllByRecursion (λ s. s.name.owner.direction ≡ Opening → IsUnderFirst answer.media s) sessions
-PeersAreFirst (MikeyFromPlain peer) offer answer sessions = Unit {0}
+  pub present : MediaHaveSessions o answer number d
 
 -- its keys where it is of RTP; RTCP is under the same master keys (RFC 3711, 4.3.2)
 abbrev pub keys_for : Kind → List Master → List Master
@@ -70,9 +61,10 @@ master_keys sessions = flat_map (λ s. keys_for s.name.kind (map (λ k. k.master
 
 -- ---- the keys
 
--- These are they, in their order. The sessions are keyed as those of an answer that is taken: under crypto lines of the texts of
--- offer and answer (RFC 4568, 5.1), or under the TGKs of their MIKEY messages (RFC 3830, 4.1.3 and 6.1.1); and what the gateway
--- makes is of the noise of the two. The text `back` is one that could have been told of this answer.
+-- These are they, in their order: medium by medium, the peer's and behind them the gateway's. The sessions are keyed as those of
+-- an answer that is taken: by the peer's first crypto line that is read and the gateway's that goes with it (RFC 4568, 5.1.2 and
+-- 5.1.3), or under the TGKs of their MIKEY messages (RFC 3830, 4.1.3 and 6.1.1); and what the gateway makes is of the noise of
+-- the two. The text `back` is one that could have been told of this answer.
 pub record AreBrought (earlier : List Turn) (id : CallId) (o : Offer) (noise text : List ℕ) (masters : List Master) : Type 0 where
   pub of_offer : Turn
   pub was_earlier : Any (λ u. u ≡ of_offer) earlier
@@ -83,6 +75,6 @@ pub record AreBrought (earlier : List Turn) (id : CallId) (o : Offer) (noise tex
   pub call : Call
   pub of_answer : IsOfAnswer o answer call
   pub by_texts : AreByTexts of_offer.before.books.pairs opens.came.way o.description answer opens.forth back call
-  pub first : PeersAreFirst opens.came.way o.description answer call.sessions
+  pub first : AreByFirstLines opens.came.way opens.came.drawn o.description noise answer call
   pub drawn : AreDrawn of_offer id opens.came.way opens.came.drawn o.description noise call
   pub are : masters ≡ master_keys call.sessions

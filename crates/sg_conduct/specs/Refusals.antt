@@ -50,7 +50,7 @@ use Rattle.sg_gateway.specs.Signals.{Signal, Tick, Psk, Manual, Offered, Answere
 use Rattle.sg_gateway.specs.Step.{Event, Signalled}
 use Rattle.sg_gateway.specs.World.{Books, Call, World}
 use Rattle.sg_conduct.specs.Causes.{IsFull, IsReused, ShowsFault}
-use Rattle.sg_conduct.specs.Offers.{Describes, HasPolicy, IsFirstNamed}
+use Rattle.sg_conduct.specs.Offers.{Describes, HasPolicy, IsAcceptable, IsFirstNamed}
 use Rattle.sg_conduct.specs.Present.{TakesPart}
 use Rattle.sg_conduct.specs.Staying.{HasNames}
 
@@ -155,14 +155,11 @@ PskSpeaks books now octets m fault =
     ((fault ≡ faults.IdUnknown) × AllByRecursion (λ p. ¬ AreNamesOf p (names_in m.payloads)) books.pairs)
     ⊎ ((pair : Pair) × IsFirstNamed books.pairs (names_in m.payloads) pair × IsNotAccepted books now octets m pair fault)
 
--- a key is held of its two ends, under the first of which it is genuine and its keys are read
+-- a key is held of its two ends, under the first of which it is genuine and its keys are read, and there is room to note four
 abbrev pub IsAccepted : World → List ℕ → Message → Type 0
 IsAccepted w octets m =
-    (pair : Pair) × IsFirstNamed w.books.pairs (names_in m.payloads) pair × IsGenuine w.books w.moment octets m pair × (¬ keys_under m pair ≡ None)
-
--- these lines carry such a message
-abbrev pub CarryAccepted : World → List (List ℕ) → Type 0
-CarryAccepted w lines = (octets : List ℕ) × (m : Message) × Carries lines octets × IsMessage octets m × IsAccepted w octets m
+    (pair : Pair) × IsFirstNamed w.books.pairs (names_in m.payloads) pair × IsGenuine w.books w.moment octets m pair
+    × (¬ keys_under m pair ≡ None) × (length w.books.noted ≤ 1020)
 
 -- the medium of this number takes part, and each before it that does is so
 pub record IsFirstAfter (P : descriptions.Medium → Type 0) (media : List descriptions.Medium) (number : ℕ) (m : descriptions.Medium) : Type 0 where
@@ -173,13 +170,15 @@ pub record IsFirstAfter (P : descriptions.Medium → Type 0) (media : List descr
   pub takes : TakesPart Secure m
   pub each : AllByRecursion (λ n. TakesPart Secure n → P n) before
 
--- the lines that are to carry a message, for so many media: the session part (255) where one stands there, for all that take part;
--- else, where one stands in some medium, each that takes part (RFC 4567, 3.1)
+-- The lines that are to carry a message, for so many media: the session part (255) where one stands there, for all that take part.
+-- Else, where one stands in some medium, each that takes part, for itself: those before it are acceptable, since each is read,
+-- accepted and found to serve before the next is looked at (RFC 4567, 3.1; RFC 3830, 5.2 to 5.4).
 abbrev pub IsPart : World → Sdp → ℕ → List (List ℕ) → ℕ → Type 0
 IsPart w s medium lines count =
     ((medium ≡ 255) × (lines ≡ s.session) × Any IsMessageLine s.session × (count ≡ length (filter (is_active Secure) s.media)))
     ⊎ (AllByRecursion (λ line. ¬ IsMessageLine line) s.session × Any (λ m. Any IsMessageLine m.lines) s.media
-    × ((m : descriptions.Medium) × IsFirstAfter (λ n. CarryAccepted w n.lines) s.media medium m × (lines ≡ m.lines) × (count ≡ 1)))
+    × ((m : descriptions.Medium) × IsFirstAfter (λ n. IsAcceptable w.books w.moment n.lines 1) s.media medium m
+    × (lines ≡ m.lines) × (count ≡ 1)))
 
 -- so in an offer of the secure side
 pub record IsToCarry (w : World) (id : CallId) (way : Way) (text : List ℕ) (medium : ℕ) : Type 0 where
@@ -206,7 +205,8 @@ SessionsSpeak m count PolicyValue = (length m.map ≡ 2 * count) × (¬ Any (Lac
 
 -- It is no description, or lacks an address, or no medium takes part. Else there aren't as many as the call has (RFC 3264, 8); or the
 -- first medium has no crypto line that is read, of those that take part, where no line is a message (RFC 4568, 5.1.2); or the first
--- message isn't there, isn't read, isn't accepted, or doesn't serve; or for the gateway's own no key is held with the peer.
+-- message that isn't acceptable shows the first cause why: it isn't there, isn't read, isn't accepted, or doesn't serve; or for the
+-- gateway's own no key is held with the peer.
 abbrev pub OfferSpeaks : World → CallId → Way → List ℕ → Refusal → Type 0
 OfferSpeaks w id way text (causes.Sdp line fault) = ShowsFault (side_of way) text line fault
 OfferSpeaks w id way text causes.NoMedia = (s : Sdp) × (description_of text ≡ Ok s) × AllByRecursion (λ m. ¬ TakesPart (side_of way) m) s.media
