@@ -1,5 +1,5 @@
--- The sessions of an answer that is taken are by the first crypto line of the peer's medium that is read, and by the gateway's line
--- that goes with it (RFC 4568, 5.1.2 and 5.1.3).
+-- Where crypto lines key an answer that is taken, its sessions are by the first one of the peer's medium that is read, and by the
+-- gateway's line that goes with it (RFC 4568, 5.1.2 and 5.1.3).
 use Rattle.std.specs.Prelude.{◌≡◌, ℕ, ◌+◌, List, Some, Ok}
 use Rattle.std.specs.List.{All, Any}
 use Rattle.sg_agreement.specs.Keying.{Offer}

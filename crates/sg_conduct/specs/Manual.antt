@@ -26,7 +26,7 @@ use Rattle.sg_gateway.specs.World.{Call, call_of}
 abbrev pub cipher_keys : Master → List (List ℕ)
 cipher_keys m = (session_keys m).rtp.encrypt ∷ ((session_keys m).rtcp.encrypt ∷ [])
 
--- the two master keys differ, and so do the keys that are derived of them (9.1); salts may be equal
+-- the two master keys differ, and so do the encryption keys that are derived of them (9.1); all else may be equal
 pub record AreApart (a b : Master) : Type 0 where
   pub masters : ¬ a.key ≡ b.key
   pub ciphers : AllByRecursion (λ x. AllByRecursion (λ y. x ≡ y → x ≡ []) (cipher_keys b)) (cipher_keys a)

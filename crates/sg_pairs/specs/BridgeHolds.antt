@@ -25,7 +25,7 @@ pub record BridgeHolds (said : List Said) : Type 0 where
   pub members : MembersAreTheCalls said
   -- a line that joins or parts tells that it is done, or the first cause why not
   pub causes : EachJoinsAndPartsSo said
-  -- two calls that are told as joined are in one pair then, and one that is told as parted is in none
+  -- two calls that are told as joined are in one pair then, and one that a line parts is in none
   pub told : EachIsAsTold said
   -- a pair comes of a line that joins, and is in force until one of its calls ends or a line parts it, which is told
   pub pairs : EachPairLasts said

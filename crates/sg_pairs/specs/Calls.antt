@@ -118,7 +118,7 @@ EachJoinsAndPartsSo said = AllLines JoinsAndPartsSo said (bridgings said)
 abbrev pub IsPaired : World → Members → CallId → CallId → Type 0
 IsPaired w calls first second = (p : Pair) × (p.first.id ≡ first) × (p.second.id ≡ second) × IsIn w calls first (Some p) × IsIn w calls second (Some p)
 
--- what is told as joined is, and what is told as parted is in no pair any more
+-- what is told as joined is, and the call that a line parts is in no pair any more
 abbrev pub IsAsTold : Said → Bridging → Type 0
 IsAsTold (Happens e) b = Unit {0}
 IsAsTold (Joins first second) b = b.told ≡ tells.Joined first second ∷ [] → IsPaired b.world b.calls first second

@@ -61,7 +61,7 @@ pub fn members_are_the_calls()
 }
 
 /// A line that joins or parts tells that it is done, or the first cause why not, by the calls of the world and the pairs
-/// that are there. Two calls that are told as joined are in one pair then, and one that is told as parted is in none.
+/// that are there. Two calls that are told as joined are in one pair then, and one that a line parts is in none.
 pub fn joins_have_their_causes()
     ensures causes { (said : List Said) → EachJoinsAndPartsSo said }
     ensures told { (said : List Said) → EachIsAsTold said }

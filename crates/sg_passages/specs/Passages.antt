@@ -62,7 +62,7 @@ abbrev pub CameTo : Leaves → ℕ → ℕ → Type 0
 CameTo leaves port came = (came ≡ port) ⊎ (SharesFirst leaves port × (came + 1 ≡ port))
 
 -- What is told of an outcome: of a packet that it leaves; of a drop the cause, at the port to which its datagram came; of a
--- description a text to the same side, with no line more but that of RFC 5761; everything else as it is.
+-- description a text to the same side, with no other line but that of RFC 5761; everything else as it is.
 abbrev pub IsToldAs : Leaves → Outcome → Outcome → Type 0
 IsToldAs leaves (Out port to octets) o = o ≡ out_by leaves port to octets
 IsToldAs leaves (Dropped port cause) o = (came : ℕ) × (o ≡ Dropped came cause) × CameTo leaves port came
