@@ -1,14 +1,8 @@
 -- What is told of an answer to the side that offered is the answer's description as it came, but for what holds for one side
 -- alone (RFC 3264, 6): its lines in their order, each medium in its place under the offer's protocol word, at the gateway's own
-<<<<<<< ours
 -- port exactly where it takes part in both texts, and behind them what the gateway adds where the secure side offered: to each
 -- medium that takes part in both the one line, or message, that answers it, unless the session part has one; to another none.
-use Rattle.std.specs.Prelude.{◌≡◌, ◌⊎◌, ℕ, ◌+◌, List, [], ◌∷◌, ◌++◌, take, codes, Some, Ok}
-=======
--- port exactly where it takes part in both texts, and behind them what the gateway adds: to each medium that takes part in both
--- the one line, or response, that keys it, and to another none.
 use Rattle.std.specs.Prelude.{◌≡◌, ◌⊎◌, ℕ, ◌+◌, List, [], ◌∷◌, ◌++◌, length, take, codes, Option, Some, Ok}
->>>>>>> theirs
 use Rattle.std.specs.List.{AllByRecursion, Any}
 use Rattle.base64.specs.GeneralPurpose.{encode_of}
 use Rattle.base64.specs.Engines.{standard}
