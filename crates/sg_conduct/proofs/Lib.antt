@@ -15,7 +15,9 @@ mod Manual
 mod Notes
 mod OfferRefusals
 mod Offers
+mod Opened
 mod Others
+mod OwnPayloads
 mod OwnTexts
 mod Partners
 mod Places

@@ -185,7 +185,7 @@ pub record IsReused (ring : List Installed) (Brings : List Master → Type 0) (n
   pub key : Master
   pub later : List Master
   pub brings : Brings (map (λ k. k.master) new ++ key ∷ later)
-  pub few : length new < 64
+  pub few : length new + 1 + length later ≤ 64
   pub come : ComeIntoUse ring new
   pub reused : IsReusedAt (ring ++ new) key number
 
@@ -225,12 +225,12 @@ abbrev pub RefusedAnswerShowsCause : List Turn → Turn → Type 0
 RefusedAnswerShowsCause earlier t =
     (id : CallId) (noise text : List ℕ) (c : Call) (o : Offer) → t.event ≡ Signalled (Answered id noise text)
     → call_of t.before id ≡ Some c → c.offer ≡ Some o → IsRefused t
-    → (cause : Refusal) × (t.outcomes ≡ Refused (Some id) cause ∷ []) × Shows t.before.books.ring (AreBrought earlier id o noise text) o text cause
+    → (cause : Refusal) × (t.outcomes ≡ Refused (Some id) cause ∷ []) × Shows t.before.books.ring (AreBrought earlier c.slot id o noise text) o text cause
 
 -- So in a run. And the gateway makes no cause by itself: no packet, pre-shared key or manual line closes an open offer, no key comes
 -- into the ring without a session under it, and none is noted but the messages of offers that are open then. Ticks alone move the
--- moment, `psk` lines alone change the pre-shared keys, manual lines alone mark calls; and each call has a generation or an open
--- offer. The sessions of an answer that is taken are by the first crypto line of the peer's that is read.
+-- moment, `psk` lines alone change the pre-shared keys, manual lines alone mark calls, and the marks stay; and each call has a
+-- generation or an open offer. The sessions of an answer that is taken are by the first crypto line of the peer's that is read.
 pub record RefusedAnswersShowCauses (events : List Event) : Type 0 where
   pub shown : (earlier later : List Turn) (t : Turn) → turns events ≡ earlier ++ t ∷ later → RefusedAnswerShowsCause earlier t
   pub stay : All OpenOffersStay (turns events)

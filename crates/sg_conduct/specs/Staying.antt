@@ -1,6 +1,6 @@
 -- A session stays open, but for what it has done: of all that comes, only a tick, an answer and a bye may take one away. What an
 -- answer and a bye leave of other calls `OthersStay` says, and what a tick leaves `TicksKeep`.
-use Rattle.std.specs.Prelude.{◌≡◌, ◌⊎◌, ◌<◌, ◌≤◌, ℕ, true, List, [], ◌∷◌, ◌++◌, length, Some, None}
+use Rattle.std.specs.Prelude.{◌≡◌, ◌⊎◌, ◌↔◌, ◌<◌, ◌≤◌, ℕ, true, List, [], ◌∷◌, ◌++◌, length, Some, None}
 use Rattle.std.specs.List.{All, AllByRecursion, Any}
 use Rattle.sg_agreement.specs.Keying.{Offer}
 use Rattle.sg_base.specs.declared.addresses.CallId.{CallId}
@@ -61,17 +61,19 @@ PairsStay t = ((p : Pair) → ¬ t.event ≡ Signalled (Psk p)) → (after_turn 
 abbrev pub HasNames : List Pair → Pair → Type 0
 HasNames pairs p = Any (λ q. (q.own ≡ p.own) × (q.peer ≡ p.peer)) pairs
 
--- It is refused where a key of its two names is held, or 64 are; else it is held, behind all others, and nothing is told.
+-- It is refused where a key of its two names is held, or else 64 are; else it is held, behind all others, and nothing is told.
 abbrev pub PskIsHeld : Turn → Type 0
 PskIsHeld t =
     (p : Pair) → t.event ≡ Signalled (Psk p)
     → (HasNames t.before.books.pairs p × (t.outcomes ≡ Refused None PskKnown ∷ []))
-    ⊎ (((64 ≤ length t.before.books.pairs) × (t.outcomes ≡ Refused None PskFull ∷ []))
-    ⊎ ((¬ HasNames t.before.books.pairs p) × (t.outcomes ≡ []) × ((after_turn t).books.pairs ≡ t.before.books.pairs ++ p ∷ [])))
+    ⊎ ((¬ HasNames t.before.books.pairs p)
+    × (((64 ≤ length t.before.books.pairs) × (t.outcomes ≡ Refused None PskFull ∷ []))
+    ⊎ ((length t.before.books.pairs < 64) × (t.outcomes ≡ []) × ((after_turn t).books.pairs ≡ t.before.books.pairs ++ p ∷ []))))
 
--- a call that is keyed manually was so before the turn, or is made in it by its line
+-- the calls that are keyed manually are those that were so before the turn, and the one that is made in it by its line
 abbrev pub MarksStay : Turn → Type 0
-MarksStay t = AllByRecursion (λ d. d.manual ≡ true → Any (λ c. (c.serial ≡ d.serial) × (c.manual ≡ true)) t.before.calls ⊎ IsManualIn t d.id) (after_turn t).calls
+MarksStay t =
+    AllByRecursion (λ d. (d.manual ≡ true) ↔ (Any (λ c. (c.serial ≡ d.serial) × (c.manual ≡ true)) t.before.calls ⊎ IsManualIn t d.id)) (after_turn t).calls
 
 -- a call whose first offer is rejected ends, and is told so
 abbrev pub RejectedFirstEnds : Turn → Type 0
