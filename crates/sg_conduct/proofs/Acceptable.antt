@@ -19,9 +19,10 @@ use Rattle.sg_psk.specs.Accepting.{Accepted, accepted_with, fault_of, initial_fi
 use Rattle.sg_psk.specs.Envelope.{mac_of}
 use Rattle.sg_psk.specs.Pairs.{is_noted, is_of, is_same, is_with, note, pair_named}
 use Rattle.sg_psk.specs.Parts.{closing_in, names_in, policies_in, random_in, stamp_in}
-use Rattle.sg_psk.specs.Stamps.{distance, is_skewed, since_1900}
+use Rattle.sg_psk.specs.Stamps.{is_skewed}
 use Rattle.sg_psk.specs.declared.replays.Noted.{Noted}
 use Rattle.sg_session.proofs.Inversions.{after_ok_of, stop_if_of}
+use Rattle.sg_gateway.proofs.Authentic.{not_timely}
 use Rattle.sg_gateway.proofs.Common.{Books, CsEntry, Pair, StreamKeys, Tgk, any_cases, any_none, each_weaker, of_cs, of_message, of_psk, or_refusal, same_octets_is}
 use Rattle.sg_gateway.proofs.Common.{same_octets_true}
 use Rattle.sg_gateway.specs.Authentic.{AreNamesOf}
@@ -204,7 +205,7 @@ module _ (books : Books) (now : ℕ) (lines : List (List ℕ)) (media : ℕ) (is
       cond-false (not (is_served (closing_in is.message.payloads))) _ _ (not_from_true _ (and_from _ _ (eq-eqb _ 1 is.cipher) (eq-eqb _ 1 is.mac)))
       ∙ cond-false (not (initial_fits is.octets is.message is.pair)) _ _ (not_from_true _ (same_octets_true _ _ is.code))
       ∙ cond-false (is_skewed (stamp_in is.message.payloads) now) _ _
-      (false_from_ne_true _ (λ e. let far = ltb-true 300000 (distance (since_1900 (stamp_in is.message.payloads)) (now + 2208988800000)) e in let close = is.near in omega (arith, far, close)))
+      (false_from_ne_true _ (λ e. not_timely (stamp_in is.message.payloads) now e is.timely))
       ∙ cond-false (is_noted books.noted (note is.pair.peer is.message.csb (stamp_in is.message.payloads))) _ _ (not_there is.pair.peer (stamp_in is.message.payloads) is.message.csb books.noted is.new)
 
   taken : initial_of is.octets is.message books.pairs books.noted now ≡ Ok accepted

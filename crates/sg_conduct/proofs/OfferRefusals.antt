@@ -37,7 +37,7 @@ use Rattle.sg_sdes.specs.CryptoOf.{crypto_of}
 use Rattle.sg_sdp.specs.declared.medium.Medium as descriptions
 use Rattle.sg_sdp.specs.declared.sdp.Sdp.{Sdp}
 use Rattle.sg_session.proofs.Inversions.{ok_is, stop_if_is}
-use Rattle.sg_gateway.proofs.Authentic.{find_any, initial_parts, message_read, none_unless, unless_is}
+use Rattle.sg_gateway.proofs.Authentic.{find_any, initial_parts, message_read, none_unless, not_timely, timely, unless_is}
 use Rattle.sg_gateway.proofs.Common.{Books, Call, CallId, CryptoLine, CsEntry, FromSecure, Message, MikeyFromPlain, Pair, Plain, Refusal, SdesFromPlain, Secure, Side, StreamKeys, Tgk, Way, World}
 use Rattle.sg_gateway.proofs.Common.{active_count, after_ok, after_ok_is, any_cases, any_here, any_none, any_there, any_weaker, at_hand, each_active, each_of, each_weaker}
 use Rattle.sg_gateway.proofs.Common.{if_active, is_active, none_some, of_cs, of_message, of_psk, or_refusal, pair_with, same_octets, same_octets_is, same_octets_true, side_of, some_is}
@@ -53,7 +53,7 @@ use Rattle.sg_conduct.proofs.Present.{takes_active}
 use Rattle.sg_conduct.proofs.Served.{sessions_serve}
 use Rattle.sg_conduct.specs.Offers.{Describes, HasPolicy, IsAcceptable, IsFirstNamed}
 use Rattle.sg_conduct.specs.Present.{TakesPart}
-use Rattle.sg_conduct.specs.Refusals.{FitsCall, HasCode, IsAccepted, IsFirstAfter, IsGenuine, IsNotAccepted, IsNotedIn, IsOfAlgorithms, IsPart, IsThere, IsToCarry, OfferSpeaks, PskSpeaks, SessionsSpeak, apart}
+use Rattle.sg_conduct.specs.Refusals.{FitsCall, HasCode, IsAccepted, IsFirstAfter, IsGenuine, IsNotAccepted, IsNotedIn, IsOfAlgorithms, IsPart, IsThere, IsToCarry, OfferSpeaks, PskSpeaks, SessionsSpeak}
 
 find_none : {X : Type 0} (test : X → Bool) (xs : List X) → find test xs ≡ None → AllByRecursion (λ x. test x ≡ false) xs
 find_none test [] e = tt
@@ -267,9 +267,6 @@ module _ (books : Books) (now : ℕ) (octets : List ℕ) (m : Message) where
         and_from (same_octets pair.peer n.peer && eqb m.csb n.csb) (same_octets (stamp_in m.payloads) n.stamp)
         (and_from (same_octets pair.peer n.peer) (eqb m.csb n.csb) (same_octets_true _ _ (sym same.0)) (eq-eqb m.csb n.csb (sym same.1))) (same_octets_true _ _ (sym same.2))) books.noted there))
 
-    near_is : is_skewed (stamp_in m.payloads) now ≡ false → apart now m ≤ 300000
-    near_is e = ltb-false 300000 (apart now m) e
-
     genuine : fault_of octets m pair books.noted now ≡ None → IsGenuine books now octets m pair
     unfolding fault_of
     genuine e =
@@ -277,7 +274,7 @@ module _ (books : Books) (now : ℕ) (octets : List ℕ) (m : Message) where
         let b = none_unless (not (initial_fits octets m pair)) faults.BadMac _ a.1 in
         let c = none_unless (is_skewed (stamp_in m.payloads) now) (faults.Skew (moment_of (stamp_in m.payloads)) now) _ b.1 in
         let d = none_unless (is_noted books.noted as_noted) faults.Repeated None c.1 in
-        record { algorithms = algorithms_are (not-false _ a.0); code = has_code (not-false _ b.0); near = near_is c.0; new = is_new d.0 }
+        record { algorithms = algorithms_are (not-false _ a.0); code = has_code (not-false _ b.0); timely = timely (stamp_in m.payloads) now c.0; new = is_new d.0 }
 
     keys_not : IsGenuine books now octets m pair → (o : Option (List Tgk)) → keys_in m pair ≡ o → (fault : PskFault) → with_keys m pair (length books.noted) o ≡ Err fault → Not fault
     unfolding with_keys keys_in
@@ -297,11 +294,11 @@ module _ (books : Books) (now : ℕ) (octets : List ℕ) (m : Message) where
     by_tests true false c d served fits skewed noted fault e =
         subst Not (err_is {X = Accepted} faults.BadMac fault e) (algorithms_are served, (λ same. false≢true (sym fits ∙ same_octets_true _ _ same)))
     by_tests true true true d served fits skewed noted fault e =
-        subst Not (err_is {X = Accepted} (faults.Skew (moment_of (stamp_in m.payloads)) now) fault e) (algorithms_are served, has_code fits, ltb-true 300000 (apart now m) skewed, refl, refl)
+        subst Not (err_is {X = Accepted} (faults.Skew (moment_of (stamp_in m.payloads)) now) fault e) (algorithms_are served, has_code fits, not_timely (stamp_in m.payloads) now skewed, refl, refl)
     by_tests true true false true served fits skewed noted fault e =
-        subst Not (err_is {X = Accepted} faults.Repeated fault e) (algorithms_are served, has_code fits, near_is skewed, is_there noted)
+        subst Not (err_is {X = Accepted} faults.Repeated fault e) (algorithms_are served, has_code fits, timely (stamp_in m.payloads) now skewed, is_there noted)
     by_tests true true false false served fits skewed noted fault e =
-        keys_not (record { algorithms = algorithms_are served; code = has_code fits; near = near_is skewed; new = is_new noted }) (keys_in m pair) refl fault e
+        keys_not (record { algorithms = algorithms_are served; code = has_code fits; timely = timely (stamp_in m.payloads) now skewed; new = is_new noted }) (keys_in m pair) refl fault e
 
     not_accepted : (fault : PskFault) → unless (fault_of octets m pair books.noted now) (with_keys m pair (length books.noted) (keys_in m pair)) ≡ Err fault → Not fault
     unfolding fault_of
@@ -451,7 +448,7 @@ module _ (w : World) (id : CallId) (c : Call) (noise : List ℕ) (way : Way) (te
         cipher = g.algorithms.0;
         mac = g.algorithms.1;
         code = g.code;
-        near = g.near;
+        timely = g.timely;
         new = none_any _ w.books.noted g.new;
         room = has_room p.0.0 p.0.1 q.0 taken;
         tgks = i.3;

@@ -1,6 +1,6 @@
 -- An offer is open where nothing speaks against it: neither its text (RFC 3264, 5; RFC 4566, 5.7) nor, where it has messages,
 -- what they say (RFC 3830, 5.2 to 5.4). And it is told to the other side.
-use Rattle.std.specs.Prelude.{◌≡◌, ◌⊎◌, ◌<◌, ◌≤◌, ℕ, ◌+◌, ◌*◌, false, List, [], ◌∷◌, ◌++◌, length, filter, Some, None, Ok, ◌==◌}
+use Rattle.std.specs.Prelude.{◌≡◌, ◌⊎◌, ◌<◌, ◌≤◌, ℕ, ◌*◌, false, List, [], ◌∷◌, ◌++◌, length, filter, Some, None, Ok, ◌==◌}
 use Rattle.std.specs.List.{All, AllByRecursion, Any, find}
 use Rattle.sg_agreement.specs.Keying.{Keying, PeerMessage, PeerMessages, Offer}
 use Rattle.sg_agreement.specs.Messages.{Bundle}
@@ -23,13 +23,12 @@ use Rattle.sg_outcome.specs.declared.outcomes.Outcome.TheVariants as outcomes
 use Rattle.sg_psk.specs.Envelope.{before_mac, enciphered}
 use Rattle.sg_psk.specs.KeyData.{tgks_of}
 use Rattle.sg_psk.specs.Parts.{closing_in, names_in, policies_in, random_in, stamp_in}
-use Rattle.sg_psk.specs.Stamps.{distance, since_1900}
 use Rattle.sg_psk.specs.declared.pairs.Pair.{Pair}
 use Rattle.sg_psk.specs.declared.replays.Noted.{Noted}
 use Rattle.sg_sdes.specs.declared.lines.CryptoLine.{CryptoLine}
 use Rattle.sg_sdp.specs.Reading.{description_of}
 use Rattle.sg_sdp.specs.declared.sdp.Sdp.{Sdp}
-use Rattle.sg_gateway.specs.Authentic.{AreNamesOf, IsNoteOf}
+use Rattle.sg_gateway.specs.Authentic.{AreNamesOf, IsNoteOf, IsTimely}
 use Rattle.sg_gateway.specs.CryptoSessions.{Carries}
 use Rattle.sg_gateway.specs.Runs.{Turn, turns, after_turn}
 use Rattle.sg_gateway.specs.Signals.{Offered, new_call}
@@ -92,9 +91,8 @@ pub record IsFirstNamed (pairs : List Pair) (names : List (List ℕ)) (pair : Pa
   pub none : AllByRecursion (λ p. ¬ AreNamesOf p names) before
 
 -- The first message that these lines carry can be accepted, for so many media: a key is held of its two ends, under which its MAC
--- is the code of all before it and its keys are read; it is of AES in counter mode and HMAC-SHA-1, its stamp is within
--- 300,000 ms of the moment, it isn't noted, and there is room to note four; it has two crypto sessions for each medium, under
--- policies that are served.
+-- is the code of all before it and its keys are read; it is of AES in counter mode and HMAC-SHA-1, its stamp is timely, it isn't
+-- noted, and there is room to note four; it has two crypto sessions for each medium, under policies that are served.
 pub record IsAcceptable (books : Books) (now : ℕ) (lines : List (List ℕ)) (media : ℕ) : Type 0 where
   pub octets : List ℕ
   pub carried : Carries lines octets
@@ -106,7 +104,7 @@ pub record IsAcceptable (books : Books) (now : ℕ) (lines : List (List ℕ)) (m
   pub cipher : (closing_in message.payloads).cipher ≡ 1
   pub mac : (closing_in message.payloads).mac ≡ 1
   pub code : (closing_in message.payloads).tag ≡ hmac_sha1 (authentication_key pair.key message.csb (random_in message.payloads)) (before_mac octets)
-  pub near : distance (since_1900 (stamp_in message.payloads)) (now + 2208988800000) ≤ 300000
+  pub timely : IsTimely now (stamp_in message.payloads)
   pub new : AllByRecursion (λ (n : Noted). ¬ ((n.peer ≡ pair.peer) × (n.csb ≡ message.csb) × (n.stamp ≡ stamp_in message.payloads))) books.noted
   pub room : length books.noted ≤ 1020
   pub tgks : List Tgk

@@ -1,6 +1,6 @@
 -- A signal that is refused tells one cause, of the call that it names, and nothing else. The world before shows the cause, or what
 -- the signal brings does. And where the world bars a signal, the signal is refused, by that cause.
-use Rattle.std.specs.Prelude.{◌≡◌, ◌⊎◌, ◌<◌, ◌≤◌, ℕ, ◌+◌, ◌*◌, pos, ◌-ℤ◌, true, List, [], ◌∷◌, ◌++◌, length, filter, Option, Some, None, Ok, Err}
+use Rattle.std.specs.Prelude.{◌≡◌, ◌⊎◌, ◌<◌, ◌≤◌, ℕ, ◌*◌, pos, ◌-ℤ◌, true, List, [], ◌∷◌, ◌++◌, length, filter, Option, Some, None, Ok, Err}
 use Rattle.std.specs.List.{All, AllByRecursion, AllPairs, Any}
 use Rattle.sg_agreement.specs.Keying.{Offer}
 use Rattle.sg_agreement.specs.Manual.{ManualCall}
@@ -33,7 +33,6 @@ use Rattle.sg_outcome.specs.declared.outcomes.Why.{Why}
 use Rattle.sg_psk.specs.Envelope.{before_mac, enciphered}
 use Rattle.sg_psk.specs.KeyData.{tgks_of}
 use Rattle.sg_psk.specs.Parts.{closing_in, names_in, policies_in, random_in, stamp_in}
-use Rattle.sg_psk.specs.Stamps.{distance, since_1900}
 use Rattle.sg_psk.specs.declared.pairs.Pair.{Pair}
 use Rattle.sg_psk.specs.declared.replays.Noted.{Noted}
 use Rattle.sg_sdes.specs.declared.lines.CryptoLine.{CryptoLine}
@@ -41,7 +40,7 @@ use Rattle.sg_sdp.specs.Reading.{description_of}
 use Rattle.sg_sdp.specs.declared.medium.Medium as descriptions
 use Rattle.sg_sdp.specs.declared.sdp.Sdp.{Sdp}
 use Rattle.sg_session.specs.Ring.{Installed}
-use Rattle.sg_gateway.specs.Authentic.{AreNamesOf}
+use Rattle.sg_gateway.specs.Authentic.{AreNamesOf, IsTimely, milliseconds_of}
 use Rattle.sg_gateway.specs.CryptoSessions.{Carries}
 use Rattle.sg_gateway.specs.Early.{named}
 use Rattle.sg_gateway.specs.Refusing.{IsRefused}
@@ -120,18 +119,14 @@ IsOfAlgorithms m = ((closing_in m.payloads).cipher ≡ 1) × ((closing_in m.payl
 abbrev pub HasCode : List ℕ → Message → Pair → Type 0
 HasCode octets m pair = (closing_in m.payloads).tag ≡ hmac_sha1 (authentication_key pair.key m.csb (random_in m.payloads)) (before_mac octets)
 
--- the milliseconds between its stamp and the moment, which counts from 1970
-abbrev pub apart : ℕ → Message → ℕ
-apart now m = distance (since_1900 (stamp_in m.payloads)) (now + 2208988800000)
-
 abbrev pub IsNotedIn : List Noted → Message → Pair → Type 0
 IsNotedIn noted m pair = Any (λ (n : Noted). (n.peer ≡ pair.peer) × (n.csb ≡ m.csb) × (n.stamp ≡ stamp_in m.payloads)) noted
 
--- so it is authentic, of the time and new
+-- so it is authentic, timely and new
 pub record IsGenuine (books : Books) (now : ℕ) (octets : List ℕ) (m : Message) (pair : Pair) : Type 0 where
   pub algorithms : IsOfAlgorithms m
   pub code : HasCode octets m pair
-  pub near : apart now m ≤ 300000
+  pub timely : IsTimely now (stamp_in m.payloads)
   pub new : ¬ IsNotedIn books.noted m pair
 
 abbrev pub keys_under : Message → Pair → Option (List Tgk)
@@ -143,8 +138,10 @@ abbrev pub IsNotAccepted : Books → ℕ → List ℕ → Message → Pair → P
 IsNotAccepted books now octets m pair faults.Algorithm = ¬ IsOfAlgorithms m
 IsNotAccepted books now octets m pair faults.BadMac = IsOfAlgorithms m × (¬ HasCode octets m pair)
 IsNotAccepted books now octets m pair (faults.Skew stamp moment) =
-    IsOfAlgorithms m × HasCode octets m pair × (300000 < apart now m) × (stamp ≡ pos (since_1900 (stamp_in m.payloads)) -ℤ pos 2208988800000) × (moment ≡ now)
-IsNotAccepted books now octets m pair faults.Repeated = IsOfAlgorithms m × HasCode octets m pair × (apart now m ≤ 300000) × IsNotedIn books.noted m pair
+    IsOfAlgorithms m × HasCode octets m pair × (¬ IsTimely now (stamp_in m.payloads))
+    × (stamp ≡ pos (milliseconds_of (stamp_in m.payloads)) -ℤ pos 2208988800000) × (moment ≡ now)
+IsNotAccepted books now octets m pair faults.Repeated =
+    IsOfAlgorithms m × HasCode octets m pair × IsTimely now (stamp_in m.payloads) × IsNotedIn books.noted m pair
 IsNotAccepted books now octets m pair faults.KeyType = IsGenuine books now octets m pair × (keys_under m pair ≡ None)
 IsNotAccepted books now octets m pair faults.CacheFull = IsGenuine books now octets m pair × (¬ keys_under m pair ≡ None) × (1020 < length books.noted)
 IsNotAccepted books now octets m pair other = ⊥

@@ -1,6 +1,6 @@
 -- What is accepted of MIKEY messages is authentic, of the time and new, and is noted.
-use Rattle.std.proofs.Common.{◌≡◌, inl, inr, ℕ, ◌+◌, Bool, true, false, cond, not, ◌&&◌, ◌||◌, List, [], ◌∷◌, ◌++◌, length, Option, Some, None, Result, Ok, Err, refl, sym, ap, ◌∙◌, subst, append_assoc, append-nil, eqb, eq-eqb, ltb, eqb-true}
-use Rattle.std.proofs.lemmas.Bool.{and_parts, false≢true, ltb-false, not-false, and_from}
+use Rattle.std.proofs.Common.{◌≡◌, inl, inr, ℕ, ◌+◌, ◌-◌, ◌≤◌, ◌<◌, Bool, true, false, cond, not, ◌&&◌, ◌||◌, List, [], ◌∷◌, ◌++◌, length, Option, Some, None, Result, Ok, Err, refl, sym, ap, ◌∙◌, subst, append_assoc, append-nil, eqb, eq-eqb, ltb, eqb-true, arith}
+use Rattle.std.proofs.lemmas.Bool.{and_parts, false≢true, ltb-false, ltb-true, not-false, and_from}
 use Rattle.std.specs.List.{AllByRecursion, Any, filter_map, find}
 use Rattle.sg_agreement.proofs.Inversions.{or_refusal_is}
 use Rattle.sg_agreement.proofs.MessagesSound.{psk_is}
@@ -24,13 +24,13 @@ use Rattle.sg_sdp.specs.declared.sdp.Sdp.{Sdp}
 use Rattle.sg_psk.specs.Pairs.{is_noted, is_of, is_same, is_with, note, pair_named, pair_with, with_note}
 use Rattle.sg_psk.specs.Parts.{closing_in, names_in, stamp_in}
 use Rattle.sg_psk.specs.Sending.{sent_under}
-use Rattle.sg_psk.specs.Stamps.{distance, is_skewed, moment_of, since_1900}
+use Rattle.sg_psk.specs.Stamps.{is_skewed, moment_of}
 use Rattle.sg_psk.specs.declared.replays.Noted.{Noted}
 use Rattle.sg_gateway.proofs.Common.{Answer, Books, Call, CallId, FromSecure, IsRefusal, Message, MikeyFromPlain, Offered, Pair, Plain, Refusal, SdesFromPlain}
 use Rattle.sg_gateway.proofs.Common.{Secure, Tgk, Way, World, active_count, after_ok, after_ok_is, answer_to, any_here, any_there, call_of, description_of}
 use Rattle.sg_gateway.proofs.Common.{each_active, each_weaker, if_active, is_active, new_call, of_cs, of_message, of_psk, offer_is, ok_is, or_refusal, same_id}
 use Rattle.sg_gateway.proofs.Common.{same_octets, same_octets_is, same_octets_true, side_of, some_is, stop_if_is}
-use Rattle.sg_gateway.specs.Authentic.{AreNamesOf, IsNoteOf, IsAuthentic, IsBundleAcceptedOnce, AreAcceptedOnce}
+use Rattle.sg_gateway.specs.Authentic.{AreNamesOf, IsNoteOf, IsAuthentic, IsBundleAcceptedOnce, IsTimely, AreAcceptedOnce, milliseconds_of}
 use Rattle.sg_gateway.proofs.CarriedOut.{found_with, id_found}
 use Rattle.sg_gateway.proofs.Lists.{any_last, any_first}
 use Rattle.sg_gateway.proofs.StepCases.{each_offer, settled_offer}
@@ -50,6 +50,20 @@ unless_is (Some fault) next x e = absurd cc
 pub message_is : (medium : ℕ) (r : Result Message messages.Place) (m : Message) → of_message medium r ≡ Ok m → r ≡ Ok m
 message_is medium (Ok y) m e = let same : y ≡ m = cc in ap Ok same
 message_is medium (Err place) m e = absurd cc
+
+-- ---- the time
+
+within : (a b : ℕ) → (a - b) + (b - a) ≤ 300000 → (b ≤ a + 300000) × (a ≤ b + 300000)
+within a b near = (omega (arith, near), omega (arith, near))
+
+beyond : (a b : ℕ) → 300000 < (a - b) + (b - a) → ¬ ((b ≤ a + 300000) × (a ≤ b + 300000))
+beyond a b far both = let low = both.0 in let high = both.1 in omega (arith, far, low, high)
+
+pub timely : (stamp : List ℕ) (now : ℕ) → is_skewed stamp now ≡ false → IsTimely now stamp
+timely stamp now e = within (milliseconds_of stamp) (now + 2208988800000) (ltb-false 300000 _ e)
+
+pub not_timely : (stamp : List ℕ) (now : ℕ) → is_skewed stamp now ≡ true → ¬ IsTimely now stamp
+not_timely stamp now e = beyond (milliseconds_of stamp) (now + 2208988800000) (ltb-true 300000 _ e)
 
 -- ---- the pair
 
@@ -136,7 +150,7 @@ module _ (books : Books) (now : ℕ) where
         held = p.0;
         names = p.1;
         code = same_octets_is _ _ (not-false _ mac.0);
-        near = ltb-false 300000 (distance (since_1900 (stamp_in m.payloads)) (now + 2208988800000)) skew.0;
+        timely = timely (stamp_in m.payloads) now skew.0;
         new = not_noted (accepted_with m i.0 i.3) books.noted repeated.0;
       })
 
