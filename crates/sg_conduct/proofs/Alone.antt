@@ -1,5 +1,5 @@
 -- What one kind of signal alone changes, and what signals tell that make no text.
-use Rattle.std.proofs.Common.{◌≡◌, ◌⊎◌, inl, inr, ℕ, ◌+◌, ◌<◌, ◌≤◌, Bool, true, false, arith, cond, not, List, [], ◌∷◌, ◌++◌, length, map, Option, Some, None, Ok, Err, refl, sym, ap, ◌∙◌, subst, eqb, ltb, eq-eqb}
+use Rattle.std.proofs.Common.{◌≡◌, ◌⊎◌, ◌↔◌, inl, inr, ℕ, ◌+◌, ◌<◌, ◌≤◌, Bool, true, false, arith, cond, not, List, [], ◌∷◌, ◌++◌, length, map, Option, Some, None, Ok, Err, refl, sym, ap, ◌∙◌, subst, eqb, ltb, eq-eqb}
 use Rattle.std.proofs.lemmas.Bool.{and_from, and_parts, false≢true, le-leb, ltb-false, ltb-true}
 use Rattle.std.proofs.lemmas.List.Folds.{Any-from_list_any, list_any-from_Any}
 use Rattle.std.specs.List.{AllByRecursion, Any}
@@ -9,20 +9,22 @@ use Rattle.sg_outcome.specs.declared.outcomes.Outcome.TheVariants.{Ended, Live, 
 use Rattle.sg_outcome.specs.declared.outcomes.Why.TheVariants as why
 use Rattle.sg_psk.specs.Pairs.{has_pair, is_of, is_with}
 use Rattle.sg_psk.specs.declared.pairs.Pair.{Pair}
+use Rattle.sg_session.proofs.Lists.{each_at}
 use Rattle.sg_gateway.proofs.Common.{Answer, Call, CallId, Datagram, Event, IsBefore, IsRefusal, Offer, Reject, Signal, Signalled, Tick, World}
-use Rattle.sg_gateway.proofs.Common.{answer_to, any_here, any_weaker, both, call_after, call_at_tick, call_of, drops_earlier, each_filter, each_map, each_of}
-use Rattle.sg_gateway.proofs.Common.{each_weaker, empty, filter, has_port, is_idle, manual_medium, refused, same_octets, same_octets_is, same_octets_true, some_is}
+use Rattle.sg_gateway.proofs.Common.{Manual, Offered, Way, answer_to, any_here, any_weaker, both, call_after, call_at_tick, call_of, drops_earlier, each_at_this, each_filter, each_map, each_of}
+use Rattle.sg_gateway.proofs.Common.{each_weaker, empty, filter, has_port, is_idle, manual_medium, new_call, refused, same_id, same_octets, same_octets_is, same_octets_true, some_is}
 use Rattle.sg_gateway.proofs.Common.{step, tells_ended, turn_of, with_call, without_earlier, world_after}
 use Rattle.sg_gateway.proofs.CarriedOut.{any_mapped, same_call_id, stays_in}
 use Rattle.sg_gateway.proofs.Freed.{Frees, event_frees}
 use Rattle.sg_gateway.proofs.Lists.{each_of_list}
+use Rattle.sg_gateway.proofs.Ordered.{not_found, one_serial}
 use Rattle.sg_gateway.proofs.Pairs.{Pairs}
 use Rattle.sg_gateway.proofs.Rested.{arrived_moment}
 use Rattle.sg_gateway.proofs.Signals.{each_and_call, each_with_call, found, is_found}
 use Rattle.sg_gateway.proofs.StepCases.{after_pair, after_tick, answer_of, each_datagram, each_signal, manual_call, renewed_by, settled_offer}
 use Rattle.sg_gateway.specs.Lasting.{IsManualIn}
 use Rattle.sg_gateway.specs.Signals.{Answered, Psk, ending, left, rejected, rejected_to}
-use Rattle.sg_conduct.specs.Staying.{HasBegun, HasNames, MarksStay, MomentStays, PairsStay, PskIsHeld, RejectedFirstEnds}
+use Rattle.sg_conduct.specs.Staying.{HasBegun, HasNames, MarksStay, MomentStays, PairsStay, PskIsHeld, RejectedFirstEnds, WasManual}
 use Rattle.sg_conduct.specs.ToldTexts.{AnswerTellsLive, ByeIsTold, IdleIsTold, IsEndOrRefusal, OthersTellEnds, TellsTexts}
 
 -- ---- the moment
@@ -102,28 +104,49 @@ psk_is_held w e p is =
 
 -- ---- marks
 
-module _ (w : World) where
-  -- the call's mark is an earlier one
-  abbrev WasMarked : Call → Type 0
-  WasMarked d = Any (λ c. (c.serial ≡ d.serial) × (c.manual ≡ true)) w.calls
+-- where no call of the id is found, none has it
+pub unknown : (w : World) (id : CallId) → call_of w id ≡ None → AllByRecursion (λ c. ¬ c.id ≡ id) w.calls
+unknown w id none = each_weaker (λ c. same_id c.id id ≡ false) (λ c. ¬ c.id ≡ id) (λ c other same. false≢true (sym other ∙ eq-eqb c.id.0 id.0 (ap (λ (i : CallId). i.0) same))) w.calls (not_found (λ c. same_id c.id id) w.calls none)
 
+module _ (w : World) (before : Pairs IsBefore w.calls) (older : AllByRecursion (λ c. c.serial < w.made) w.calls) where
   abbrev Marks : Event → Call → Type 0
-  Marks e d = d.manual ≡ true → WasMarked d ⊎ IsManualIn (turn_of w e) d.id
+  Marks e d = (d.manual ≡ true) ↔ (WasManual (turn_of w e) d ⊎ IsManualIn (turn_of w e) d.id)
 
   module _ (e : Event) where
-    -- a call of the same number and mark
-    goes_on : (c d : Call) → Any (λ x. x ≡ c) w.calls → d.serial ≡ c.serial → d.manual ≡ c.manual → Marks e d
-    goes_on c d here serial manual marked =
-        inl (any_weaker (λ x. x ≡ c) _ (λ x same. (ap (λ (x : Call). x.serial) same ∙ sym serial, ap (λ (x : Call). x.manual) same ∙ sym manual ∙ marked)) w.calls here)
+    -- a call of the same number, id and mark
+    goes_on : (c d : Call) → Any (λ x. x ≡ c) w.calls → d.serial ≡ c.serial → d.id ≡ c.id → d.manual ≡ c.manual → Marks e d
+    goes_on c d here serial id manual = (
+      λ marked. inl (any_weaker (λ x. x ≡ c) _ (λ x same. (ap (λ (x : Call). x.serial) same ∙ sym serial, ap (λ (x : Call). x.manual) same ∙ sym manual ∙ marked)) w.calls here),
+      λ is. elim is [
+        | inl was ↦
+            let at = each_at (λ x. x.serial ≡ c.serial → x ≡ c) (λ x. (x.serial ≡ d.serial) × (x.manual ≡ true)) w.calls (one_serial c w.calls before here) was in
+            manual ∙ sym (ap (λ (x : Call). x.manual) (at.1 (at.2.0 ∙ serial))) ∙ at.2.1
+        | inr line ↦ absurd (each_at_this (λ x. ¬ x.id ≡ d.id) w.calls c (unknown w d.id line.3) here (sym id))
+      ],
+    )
 
     each_as_before : AllByRecursion (Marks e) w.calls
-    each_as_before = each_of_list (Marks e) w.calls (λ c here. goes_on c c here refl refl)
+    each_as_before = each_of_list (Marks e) w.calls (λ c here. goes_on c c here refl refl refl)
 
-    put_marks : (c d : Call) → Any (λ x. x ≡ c) w.calls → d.serial ≡ c.serial → d.manual ≡ c.manual → AllByRecursion (Marks e) (with_call d w.calls)
-    put_marks c d here serial manual = each_with_call (Marks e) d w.calls (goes_on c d here serial manual) each_as_before
+    put_marks : (c d : Call) → Any (λ x. x ≡ c) w.calls → d.serial ≡ c.serial → d.id ≡ c.id → d.manual ≡ c.manual → AllByRecursion (Marks e) (with_call d w.calls)
+    put_marks c d here serial id manual = each_with_call (Marks e) d w.calls (goes_on c d here serial id manual) each_as_before
 
     ticked_marks : (now : ℕ) (c : Call) → Marks e c → Marks e (call_at_tick now c)
     ticked_marks now c is = both (Marks e) (drops_earlier now c) (without_earlier c) c is is
+
+  -- a call that an offer makes has no mark
+  new_marks : (id : CallId) (way : Way) (noise text : List ℕ) (d : Call) → d.serial ≡ w.made → d.manual ≡ false → Marks (Signalled (Offered id way noise text)) d
+  new_marks id way noise text d serial none = (
+    λ marked. absurd (false≢true (sym none ∙ marked)),
+    λ is. elim is [
+      | inl was ↦
+          let at = each_at (λ c. c.serial < w.made) (λ c. (c.serial ≡ d.serial) × (c.manual ≡ true)) w.calls older was in
+          let lt = at.1 in
+          let same = at.2.0 in
+          absurd (omega (arith, lt, same, serial))
+      | inr line ↦ absurd (let is : Signalled (Offered id way noise text) ≡ Signalled (Manual line.0) = line.2 in cc)
+    ],
+  )
 
   signal_marks : (signal : Signal) → AllByRecursion (Marks (Signalled signal)) (answer_to w signal).world.calls
   signal_marks = each_signal w (λ signal a. AllByRecursion (Marks (Signalled signal)) a.world.calls) (record {
@@ -131,12 +154,12 @@ module _ (w : World) where
     ticks = λ now on. each_map (Marks (Signalled (Tick now))) (Marks (Signalled (Tick now))) (call_at_tick now) (ticked_marks (Signalled (Tick now)) now)
         (filter (λ c. not (is_idle now c)) w.calls) (each_filter (Marks (Signalled (Tick now))) (λ c. not (is_idle now c)) w.calls (each_as_before (Signalled (Tick now))));
     pairs = λ p. each_as_before (Signalled (Psk p));
-    keys = λ h none room ring is. each_and_call (Marks _) _ w.calls (λ marked. inr (h, refl, refl, none)) (each_as_before _);
-    begins = λ id way noise text none room a agreed. each_and_call (Marks _) _ w.calls (λ marked. absurd (false≢true marked)) (each_as_before _);
-    offers = λ id way noise text c at a agreed. put_marks _ c (settled_offer w.moment w.books c a).call (is_found _ w.calls c at) refl refl;
-    answers = λ id noise text c at o is_open g agreed ring is. put_marks _ c (renewed_by w.moment w.books c g.text g.media ring).call (is_found _ w.calls c at) refl refl;
+    keys = λ h none room ring is. each_and_call (Marks _) _ w.calls ((λ marked. inr (h, refl, refl, none)), (λ is. refl)) (each_as_before _);
+    begins = λ id way noise text none room a agreed. each_and_call (Marks _) _ w.calls (new_marks id way noise text (settled_offer w.moment w.books (new_call w id) a).call refl refl) (each_as_before _);
+    offers = λ id way noise text c at a agreed. put_marks _ c (settled_offer w.moment w.books c a).call (is_found _ w.calls c at) refl refl refl;
+    answers = λ id noise text c at o is_open g agreed ring is. put_marks _ c (renewed_by w.moment w.books c g.text g.media ring).call (is_found _ w.calls c at) refl refl refl;
     rejects = λ id c at none. each_filter (Marks _) (λ x. not (eqb x.serial c.serial)) w.calls (each_as_before _);
-    closes = λ id c at. put_marks _ c (record c { offer = None; moment = w.moment }) (is_found _ w.calls c at) refl refl;
+    closes = λ id c at. put_marks _ c (record c { offer = None; moment = w.moment }) (is_found _ w.calls c at) refl refl refl;
     leaves = λ id c at. each_filter (Marks _) (λ x. not (eqb x.serial c.serial)) w.calls (each_as_before _);
   })
 
@@ -144,7 +167,7 @@ module _ (w : World) where
   marks_stay (Signalled signal) = signal_marks signal
   marks_stay (Datagram port from d) = each_datagram w port (λ h. AllByRecursion (Marks (Datagram port from d)) h.world.calls) (record {
     drops = λ cause. each_as_before (Datagram port from d);
-    puts = λ c at s t octets held. put_marks (Datagram port from d) c (call_after w.moment c s t) (is_found (has_port port) w.calls c at) refl refl;
+    puts = λ c at s t octets held. put_marks (Datagram port from d) c (call_after w.moment c s t) (is_found (has_port port) w.calls c at) refl refl refl;
   }) from d.items
 
 -- ---- a rejected first offer

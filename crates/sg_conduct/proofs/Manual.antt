@@ -1,4 +1,4 @@
--- The keys of a line that are free come into use, and the sessions are those of the line.
+-- The keys of a line that are free come into use, the sessions are those of the line, and no offer is open.
 use Rattle.std.proofs.Common.{◌≡◌, ◌+◌, ℕ, Bool, true, false, cond, List, [], ◌∷◌, ◌++◌, length, Some, None, Result, Ok, refl, sym, ap, ◌∙◌, subst, arith, ltb, length-append}
 use Rattle.std.proofs.lemmas.Bool.{and_from, and_parts, cond-false, false_from_ne_true, lt-ltb, ltb-true, not_from_false, or_from}
 use Rattle.std.specs.List.{AllByRecursion}
@@ -8,8 +8,12 @@ use Rattle.sg_base.specs.Suites.{is_raw}
 use Rattle.sg_base.specs.declared.faults.Refusal.TheVariants.{KeyReused, RingFull}
 use Rattle.sg_session.specs.Ring.{Installed, derived, first_clash_by, install, key_of, keys_clash, same_secret, with_key_by, with_keys_by}
 use Rattle.sg_session.specs.Stages.{after_ok, stop_if}
-use Rattle.sg_gateway.proofs.Common.{ManualCall, Master, Opening, Refusal, Rtcp, Rtp, Sealing, Session, Turn, manual_medium, same_octets, same_octets_is}
+use Rattle.sg_gateway.proofs.Common.{Call, Event, Manual, ManualCall, Master, Opening, Refusal, Rtcp, Rtp, Sealing, Session, Turn, World, answer_to, call_of, each_weaker, manual_medium, same_id, same_octets, same_octets_is, step}
+use Rattle.sg_gateway.proofs.CarriedOut.{same_call_id}
+use Rattle.sg_gateway.proofs.Signals.{each_and_call, found}
+use Rattle.sg_gateway.proofs.StepCases.{each_manual}
 use Rattle.sg_gateway.specs.Taken.{ManualCallIsTaken}
+use Rattle.sg_conduct.proofs.Alone.{unknown}
 use Rattle.sg_conduct.specs.Manual.{AreApart, AreByLine, AreFree, HasControl, IsApartInItself, ManualIsTaken, session_by}
 
 -- ---- the ring takes keys that are apart from all in it
@@ -100,7 +104,25 @@ module _ (h : ManualCall) (call : ℕ) (ring : List Installed) (free : AreFree r
     without = λ none. as_they_are ∙ ap sessions_if (false_from_ne_true _ (λ e. none (is_control e)));
   }
 
+-- ---- the call that is made has no open offer
+
+module _ (w : World) (h : ManualCall) (none : call_of w h.id ≡ None) where
+  abbrev IsClosed : Call → Type 0
+  IsClosed d = d.id ≡ h.id → d.offer ≡ None
+
+  others_closed : AllByRecursion IsClosed w.calls
+  others_closed = each_weaker (λ c. ¬ c.id ≡ h.id) IsClosed (λ c other same. absurd (other same)) w.calls (unknown w h.id none)
+
+  each_closed : AllByRecursion IsClosed (answer_to w (Manual h)).world.calls
+  each_closed = each_manual w h (λ a. AllByRecursion IsClosed a.world.calls) (λ cause. others_closed) (λ free room ring is. each_and_call IsClosed _ w.calls (λ same. refl) others_closed)
+
+  pub made_closed : (d : Call) → call_of (answer_to w (Manual h)).world h.id ≡ Some d → d.offer ≡ None
+  made_closed d at =
+      let calls : List Call = (answer_to w (Manual h)).world.calls in
+      found IsClosed (λ x. same_id x.id h.id) calls d at each_closed (same_call_id h.id d calls at)
+
 pub manual_taken : (t : Turn) → ManualCallIsTaken t → ManualIsTaken t
 manual_taken t taken h event none room free =
     let r = taken h (made h t.before.made t.before.books.ring free) event none room (generated h t.before.made t.before.books.ring free) in
-    (r.0, (r.1.0, r.1.1, r.1.2, subst (AreByLine h t.before.made (length t.before.books.ring)) (sym r.1.3) (by_line h t.before.made t.before.books.ring free)))
+    let closed : r.1.0.offer ≡ None = made_closed t.before h none r.1.0 (subst (λ (e : Event). call_of (step t.before e).world h.id ≡ Some r.1.0) event r.1.1) in
+    (r.0, (r.1.0, r.1.1, r.1.2, closed, subst (AreByLine h t.before.made (length t.before.books.ring)) (sym r.1.3) (by_line h t.before.made t.before.books.ring free)))

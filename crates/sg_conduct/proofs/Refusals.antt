@@ -19,7 +19,7 @@ use Rattle.sg_gateway.proofs.Common.{Answer, Bye, Call, CallId, Datagram, Event,
 use Rattle.sg_gateway.proofs.Common.{agreed_offer, answer_to, any_cases, any_none, any_weaker, at_hand, call_of, each_map, each_of, each_weaker, find_call, is_full, is_idle, keys_from, manual_medium, named, new_call}
 use Rattle.sg_gateway.proofs.Common.{All, All-from_recursion, empty, none_some, some_is, turns, turns_from, other_side, refused, same_id, side_of, step, takes_offer, tells_ended, turn_of}
 use Rattle.sg_gateway.proofs.CarriedOut.{same_call_id}
-use Rattle.sg_gateway.proofs.Ordered.{not_found, pairs_filter}
+use Rattle.sg_gateway.proofs.Ordered.{pairs_filter}
 use Rattle.sg_gateway.proofs.Agreements.{Agreements}
 use Rattle.sg_gateway.proofs.Datagrams.{every_turn}
 use Rattle.sg_gateway.proofs.Orderly.{Ordered}
@@ -32,11 +32,11 @@ use Rattle.sg_gateway.proofs.StepCases.{after_pair, after_tick, each_datagram, e
 use Rattle.sg_gateway.specs.CallSignals.{answered_to, has_begun, keyed_manually, media_of, offered_in}
 use Rattle.sg_gateway.specs.Early.{early, early_answer, early_bye, early_manual, early_offer}
 use Rattle.sg_gateway.specs.Signals.{Answered, answered, in_new, in_old, left, offered_to, offering_side, rejected, rejected_to, tells_answer, tells_live, tells_text}
-use Rattle.sg_conduct.proofs.Alone.{AllBegun, event_begun, has_names, no_names}
+use Rattle.sg_conduct.proofs.Alone.{AllBegun, event_begun, has_names, no_names, unknown}
 use Rattle.sg_conduct.proofs.Causes.{after_ok_err, err_is, ok_err, ring_refuses, stop_if_err}
 use Rattle.sg_conduct.proofs.OfferRefusals.{offer_refused}
 use Rattle.sg_conduct.specs.Staying.{HasBegun}
-use Rattle.sg_conduct.specs.Refusals.{AreInOrder, AreOfLine, BarredIsRefused, EndsAreOnce, FitsCall, HasOpenOffer, IsBarred, IsThere, IsUnknown, KeysSpeak, OfferSpeaks, RefusalShowsCause, Speaks}
+use Rattle.sg_conduct.specs.Refusals.{AreInOrder, AreOfLine, BarredIsRefused, EndsAreOnce, FitsCall, HasOpenOffer, IsBarred, IsThere, KeysSpeak, OfferSpeaks, RefusalShowsCause, Speaks}
 
 -- ---- the call of an id
 
@@ -55,9 +55,6 @@ one_of_id id P (c ∷ cs) before any = elim (any_cases (λ c. (c.id ≡ id) × P
 ]
 
 module _ (w : World) (before : Pairs IsBefore w.calls) (begun : AllBegun w) where
-  unknown : (id : CallId) → call_of w id ≡ None → IsUnknown w id
-  unknown id none = each_weaker (λ c. same_id c.id id ≡ false) (λ c. ¬ c.id ≡ id) (λ c other same. false≢true (sym other ∙ eq-eqb c.id.0 id.0 (ap (λ (i : CallId). i.0) same))) w.calls (not_found (λ c. same_id c.id id) w.calls none)
-
   there : (id : CallId) (c : Call) → call_of w id ≡ Some c → (P : Call → Type 0) → P c → IsThere w id P
   there id c at P p = any_weaker (λ x. x ≡ c) (λ x. (x.id ≡ id) × P x) (λ x same. (ap (λ (x : Call). x.id) same ∙ same_call_id id c w.calls at, subst P (sym same) p)) w.calls (is_found _ w.calls c at)
 
@@ -133,7 +130,7 @@ module _ (w : World) (before : Pairs IsBefore w.calls) (begun : AllBegun w) wher
         → Told (Manual h) (cond (is_some o) (refused w (Some h.id) causes.CallKnown) (cond b (refused w (Some h.id) causes.TableFull)
         (in_new w h.id (tells_live h.id) (keyed_manually w.moment w.books (new_call w h.id) (manual_medium h))))).outcomes
     manual_told (Some c) at b full = bars (Manual h) causes.CallKnown (there h.id c at (λ c. Unit {0}) tt)
-    manual_told None none true full = bars (Manual h) causes.TableFull (unknown h.id none, no_room full)
+    manual_told None none true full = bars (Manual h) causes.TableFull (unknown w h.id none, no_room full)
     manual_told None none false room = keyed_told (keyed_manually w.moment w.books (new_call w h.id) (manual_medium h)) refl
 
   module _ (id : CallId) (way : Way) (noise text : List ℕ) where
@@ -157,7 +154,7 @@ module _ (w : World) (before : Pairs IsBefore w.calls) (begun : AllBegun w) wher
     ]
 
     new_told : call_of w id ≡ None → (q : Result Settled Refusal) → offered_in w.moment w.books (new_call w id) way noise text ≡ q → Told offer (in_new w id (tells_text id (other_side (side_of way))) q).outcomes
-    new_told none (Err cause) e = elim (by_stage (new_call w id) (λ n is. absurd (none_some n is)) (λ s same. each_weaker _ _ (λ c other is. absurd (other is)) w.calls (unknown id none)) cause e) [
+    new_told none (Err cause) e = elim (by_stage (new_call w id) (λ n is. absurd (none_some n is)) (λ s same. each_weaker _ _ (λ c other is. absurd (other is)) w.calls (unknown w id none)) cause e) [
       | inl state ↦ absurd (false≢true state.0)
       | inr is ↦ speaks offer cause is
     ]
@@ -177,7 +174,7 @@ module _ (w : World) (before : Pairs IsBefore w.calls) (begun : AllBegun w) wher
       where
         go : (b : Bool) → is_full w ≡ b
             → Told offer (cond b (refused w (Some id) causes.TableFull) (in_new w id (tells_text id (other_side (side_of way))) (offered_in w.moment w.books (new_call w id) way noise text))).outcomes
-        go true full = bars offer causes.TableFull (unknown id none, no_room full)
+        go true full = bars offer causes.TableFull (unknown w id none, no_room full)
         go false room = new_told none (offered_in w.moment w.books (new_call w id) way noise text) refl
 
   module _ (id : CallId) (noise text : List ℕ) where
@@ -193,7 +190,7 @@ module _ (w : World) (before : Pairs IsBefore w.calls) (begun : AllBegun w) wher
     open_told c at (Some o) is_open (Ok r) e = taken answers _ ((λ no. no), ((λ no. no), tt))
 
     answer_told : (o : Option Call) → call_of w id ≡ o → Told answers (answered w id noise text o).outcomes
-    answer_told None none = bars answers causes.CallUnknown (unknown id none)
+    answer_told None none = bars answers causes.CallUnknown (unknown w id none)
     answer_told (Some c) at = open_told c at c.offer refl (answered_to w.moment w.books c noise text c.offer) refl
 
   module _ (id : CallId) where
@@ -204,11 +201,11 @@ module _ (w : World) (before : Pairs IsBefore w.calls) (begun : AllBegun w) wher
     closing_told c d at (Some o) is_open false = taken (Reject id) [] tt
 
     rejection_told : (o : Option Call) → call_of w id ≡ o → Told (Reject id) (rejected w id o).outcomes
-    rejection_told None none = bars (Reject id) causes.CallUnknown (unknown id none)
+    rejection_told None none = bars (Reject id) causes.CallUnknown (unknown w id none)
     rejection_told (Some c) at = closing_told c (record c { offer = None; moment = w.moment }) at c.offer refl (eqb c.generations 0)
 
     bye_told : (o : Option Call) → call_of w id ≡ o → Told (Bye id) (left w id o).outcomes
-    bye_told None none = bars (Bye id) causes.CallUnknown (unknown id none)
+    bye_told None none = bars (Bye id) causes.CallUnknown (unknown w id none)
     bye_told (Some c) at = taken (Bye id) _ ((λ no. no), tt)
 
   signal_told : (signal : Signal) → Told signal (answer_to w signal).outcomes

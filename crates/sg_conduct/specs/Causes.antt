@@ -229,8 +229,8 @@ RefusedAnswerShowsCause earlier t =
 
 -- So in a run. And the gateway makes no cause by itself: no packet, pre-shared key or manual line closes an open offer, no key comes
 -- into the ring without a session under it, and none is noted but the messages of offers that are open then. Ticks alone move the
--- moment, `psk` lines alone change the pre-shared keys, manual lines alone mark calls; and each call has a generation or an open
--- offer. The sessions of an answer that is taken are by the first crypto line of the peer's that is read.
+-- moment, `psk` lines alone change the pre-shared keys, manual lines alone mark calls, and the marks stay; and each call has a
+-- generation or an open offer. The sessions of an answer that is taken are by the first crypto line of the peer's that is read.
 pub record RefusedAnswersShowCauses (events : List Event) : Type 0 where
   pub shown : (earlier later : List Turn) (t : Turn) → turns events ≡ earlier ++ t ∷ later → RefusedAnswerShowsCause earlier t
   pub stay : All OpenOffersStay (turns events)

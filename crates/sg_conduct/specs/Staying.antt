@@ -1,6 +1,6 @@
 -- A session stays open, but for what it has done: of all that comes, only a tick, an answer and a bye may take one away. What an
 -- answer and a bye leave of other calls `OthersStay` says, and what a tick leaves `TicksKeep`.
-use Rattle.std.specs.Prelude.{◌≡◌, ◌⊎◌, ◌<◌, ◌≤◌, ℕ, true, List, [], ◌∷◌, ◌++◌, length, Some, None}
+use Rattle.std.specs.Prelude.{◌≡◌, ◌⊎◌, ◌↔◌, ◌<◌, ◌≤◌, ℕ, true, List, [], ◌∷◌, ◌++◌, length, Some, None}
 use Rattle.std.specs.List.{All, AllByRecursion, Any}
 use Rattle.sg_agreement.specs.Keying.{Offer}
 use Rattle.sg_base.specs.declared.addresses.CallId.{CallId}
@@ -69,9 +69,13 @@ PskIsHeld t =
     ⊎ (((64 ≤ length t.before.books.pairs) × (t.outcomes ≡ Refused None PskFull ∷ []))
     ⊎ ((¬ HasNames t.before.books.pairs p) × (t.outcomes ≡ []) × ((after_turn t).books.pairs ≡ t.before.books.pairs ++ p ∷ [])))
 
--- a call that is keyed manually was so before the turn, or is made in it by its line
+-- before the turn the call was keyed manually
+abbrev pub WasManual : Turn → Call → Type 0
+WasManual t d = Any (λ c. (c.serial ≡ d.serial) × (c.manual ≡ true)) t.before.calls
+
+-- the calls that are keyed manually are those that were so before the turn, and the one that is made in it by its line
 abbrev pub MarksStay : Turn → Type 0
-MarksStay t = AllByRecursion (λ d. d.manual ≡ true → Any (λ c. (c.serial ≡ d.serial) × (c.manual ≡ true)) t.before.calls ⊎ IsManualIn t d.id) (after_turn t).calls
+MarksStay t = AllByRecursion (λ d. (d.manual ≡ true) ↔ (WasManual t d ⊎ IsManualIn t d.id)) (after_turn t).calls
 
 -- a call whose first offer is rejected ends, and is told so
 abbrev pub RejectedFirstEnds : Turn → Type 0

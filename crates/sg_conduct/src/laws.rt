@@ -104,9 +104,9 @@ pub fn offers_are_told_as_they_came()
 /// An answer to an open offer is refused by the first cause that its text, its message or the ring shows, by the keys that this
 /// answer would bring, and nothing else is told. No packet, pre-shared key or `manual` line closes an open offer, no key
 /// comes into the ring without a session under it, and no message is noted without its offer. Ticks alone move the moment,
-/// `psk` lines alone change the pre-shared keys, `manual` lines alone mark calls; a call whose first offer is rejected ends,
-/// and each has a generation or an open offer. What an answer keys by crypto lines is by the first one of the peer's medium that
-/// is read, and by the gateway's that goes with it.
+/// `psk` lines alone change the pre-shared keys, `manual` lines alone mark calls, and the marks stay; a call whose first offer is
+/// rejected ends, and each has a generation or an open offer. What an answer keys by crypto lines is by the first one of the
+/// peer's medium that is read, and by the gateway's that goes with it.
 pub fn refused_answers_show_causes()
     ensures { (events : List Event) → RefusedAnswersShowCauses events }
 {
@@ -115,8 +115,8 @@ pub fn refused_answers_show_causes()
     offers_fit_their_calls();
 }
 
-/// A call that is keyed manually is made and live, under the sessions that its line says, where its id is of no call, fewer than
-/// 256 calls are there and its keys are free.
+/// A call that is keyed manually is made and live, without an open offer, under the sessions that its line says, where its id is
+/// of no call, fewer than 256 calls are there and its keys are free.
 pub fn manual_calls_are_taken()
     ensures { (events : List Event) → ManualCallsAreTaken events }
 {

@@ -30,7 +30,8 @@ returns c = λ events.
       moment = at_each_turn MomentStays (λ past w e kept. moment_stays w e) events;
       pairs = at_each_turn PairsStay (λ past w e kept. pairs_stay w e) events;
       held = at_each_turn PskIsHeld (λ past w e kept. psk_is_held w e) events;
-      marks = at_each_turn MarksStay (λ past w e kept. marks_stay w e) events;
+      marks = at_each_ordered Anything anything_on anything_had laws MarksStay
+          (λ past w e kept ordered. marks_stay w ordered.calls (each_weaker _ _ (λ c of_call. of_call.older) w.calls kept.calls) e) events;
       rejected = at_each_ordered Anything anything_on anything_had laws RejectedFirstEnds
           (λ past w e kept ordered. rejected_ends w ordered.calls (each_weaker _ _ (λ c of_call. of_call.older) w.calls kept.calls) e) events;
       begun = calls_begun events;
