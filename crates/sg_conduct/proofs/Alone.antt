@@ -71,8 +71,9 @@ module _ (w : World) (p : Pair) where
   abbrev Gives : Answer → Type 0
   Gives a =
       (HasNames w.books.pairs p × (a.outcomes ≡ Refused None PskKnown ∷ []))
-      ⊎ (((64 ≤ length w.books.pairs) × (a.outcomes ≡ Refused None PskFull ∷ []))
-      ⊎ ((¬ HasNames w.books.pairs p) × (a.outcomes ≡ []) × (a.world.books.pairs ≡ w.books.pairs ++ p ∷ [])))
+      ⊎ ((¬ HasNames w.books.pairs p)
+      × (((64 ≤ length w.books.pairs) × (a.outcomes ≡ Refused None PskFull ∷ []))
+      ⊎ ((length w.books.pairs < 64) × (a.outcomes ≡ []) × (a.world.books.pairs ≡ w.books.pairs ++ p ∷ []))))
 
   names_are : (q : Pair) → is_of p.own p.peer q ≡ true → (q.own ≡ p.own) × (q.peer ≡ p.peer)
   names_are q is = let parts = and_parts (same_octets q.own p.own) (is_with p.peer q) is in (same_octets_is q.own p.own parts.0, same_octets_is q.peer p.peer parts.1)
@@ -89,8 +90,8 @@ module _ (w : World) (p : Pair) where
   by_tests : (a b : Bool) → has_pair w.books.pairs p.own p.peer ≡ a → ltb (length w.books.pairs) 64 ≡ b
       → Gives (cond a (refused w None PskKnown) (cond b (after_pair w p) (refused w None PskFull)))
   by_tests true b known room = inl (has_names known, refl)
-  by_tests false true known room = inr (inr (no_names known, refl, refl))
-  by_tests false false known room = inr (inl (ltb-false (length w.books.pairs) 64 room, refl))
+  by_tests false true known room = inr (no_names known, inr (ltb-true (length w.books.pairs) 64 room, refl, refl))
+  by_tests false false known room = inr (no_names known, inl (ltb-false (length w.books.pairs) 64 room, refl))
 
   pub pair_gives : Gives (answer_to w (Psk p))
   pair_gives = by_tests (has_pair w.books.pairs p.own p.peer) (ltb (length w.books.pairs) 64) refl refl
@@ -98,8 +99,9 @@ module _ (w : World) (p : Pair) where
 pub psk_is_held : (w : World) (e : Event) → PskIsHeld (turn_of w e)
 psk_is_held w e p is =
     subst (λ (e : Event). (HasNames w.books.pairs p × ((step w e).outcomes ≡ Refused None PskKnown ∷ []))
-    ⊎ (((64 ≤ length w.books.pairs) × ((step w e).outcomes ≡ Refused None PskFull ∷ []))
-    ⊎ ((¬ HasNames w.books.pairs p) × ((step w e).outcomes ≡ []) × ((step w e).world.books.pairs ≡ w.books.pairs ++ p ∷ []))))
+    ⊎ ((¬ HasNames w.books.pairs p)
+    × (((64 ≤ length w.books.pairs) × ((step w e).outcomes ≡ Refused None PskFull ∷ []))
+    ⊎ ((length w.books.pairs < 64) × ((step w e).outcomes ≡ []) × ((step w e).world.books.pairs ≡ w.books.pairs ++ p ∷ [])))))
     (sym is) (pair_gives w p)
 
 -- ---- marks

@@ -1,7 +1,7 @@
 -- What refuses an answer shows in its text, its message or the ring.
 use Rattle.std.proofs.Common.{◌≡◌, ◌⊎◌, inl, inr, ℕ, suc, ◌+◌, ◌*◌, ◌≤◌, Bool, true, false, cond, not, ◌&&◌, eqb, ltb, ltb-true, List, [], ◌∷◌, ◌++◌, length, map, codes, Option, Some, None, Result, Ok, Err, refl, sym, ap, ◌∙◌, subst, arith, append_assoc, append-nil, length-append}
 use Rattle.std.proofs.lemmas.Bool.{and_from, and_parts, eq-eqb, eqb-false, eqb-true, false≢true, not-false, not-true, or_parts}
-use Rattle.std.proofs.lemmas.List.{map-append}
+use Rattle.std.proofs.lemmas.List.{length-map, map-append}
 use Rattle.std.proofs.lemmas.List.Folds.{Any-from_list_any}
 use Rattle.std.proofs.lemmas.List.Elements.{recursion_from_All}
 use Rattle.std.proofs.lemmas.Slice.Eq.{bytes_eq-Decides}
@@ -694,7 +694,7 @@ ring_refuses ring Brings Cause reused full ks brings few c e = elim (after_ok_er
         key = at.key.master;
         later = map (λ k. k.master) at.later;
         brings = subst Brings (ap (map (λ k. k.master)) at.parts ∙ map-append (λ k. k.master) at.new (at.key ∷ at.later)) brings;
-        few = omega (arith, few, long);
+        few = (let same = length-map at.later (λ k. k.master) in omega (arith, few, long, same));
         come = at.come;
         reused = at.at;
       }))

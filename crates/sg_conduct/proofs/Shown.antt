@@ -301,7 +301,7 @@ rtcp_says p number on h e = go (rtcp_head p) refl e
         let same = ok_is _ h e in (
           record {
             long = ltb-false _ _ a.0;
-            head = eqb-true _ _ (not-false _ b.0);
+            head = (eqb-true _ _ (not-false _ b.0), ltb-false _ _ a.0);
             source = ap (λ (h : Head). h.ssrc) (sym same) ∙ ap (λ (h : RtcpHead). h.ssrc) (sym is);
             number = λ k. absurd cc;
           },

@@ -185,7 +185,7 @@ pub record IsReused (ring : List Installed) (Brings : List Master → Type 0) (n
   pub key : Master
   pub later : List Master
   pub brings : Brings (map (λ k. k.master) new ++ key ∷ later)
-  pub few : length new < 64
+  pub few : length new + 1 + length later ≤ 64
   pub come : ComeIntoUse ring new
   pub reused : IsReusedAt (ring ++ new) key number
 

@@ -46,7 +46,7 @@ extended p = listed p + (4 + 4 * u16_at p (listed p + 2))
 -- the head is whole
 abbrev pub HasHead : Kind → List ℕ → Type 0
 HasHead Rtp p = (version_in p ≡ 2) × (listed p ≤ length p) × (HasExtension p → extended p ≤ length p)
-HasHead Rtcp p = version_in p ≡ 2
+HasHead Rtcp p = (version_in p ≡ 2) × (least Rtcp ≤ length p)
 
 -- and its source is admitted
 abbrev pub IsAdmitted : Kind → Session → List ℕ → Type 0

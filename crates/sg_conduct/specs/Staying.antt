@@ -61,13 +61,14 @@ PairsStay t = ((p : Pair) → ¬ t.event ≡ Signalled (Psk p)) → (after_turn 
 abbrev pub HasNames : List Pair → Pair → Type 0
 HasNames pairs p = Any (λ q. (q.own ≡ p.own) × (q.peer ≡ p.peer)) pairs
 
--- It is refused where a key of its two names is held, or 64 are; else it is held, behind all others, and nothing is told.
+-- It is refused where a key of its two names is held, or else 64 are; else it is held, behind all others, and nothing is told.
 abbrev pub PskIsHeld : Turn → Type 0
 PskIsHeld t =
     (p : Pair) → t.event ≡ Signalled (Psk p)
     → (HasNames t.before.books.pairs p × (t.outcomes ≡ Refused None PskKnown ∷ []))
-    ⊎ (((64 ≤ length t.before.books.pairs) × (t.outcomes ≡ Refused None PskFull ∷ []))
-    ⊎ ((¬ HasNames t.before.books.pairs p) × (t.outcomes ≡ []) × ((after_turn t).books.pairs ≡ t.before.books.pairs ++ p ∷ [])))
+    ⊎ ((¬ HasNames t.before.books.pairs p)
+    × (((64 ≤ length t.before.books.pairs) × (t.outcomes ≡ Refused None PskFull ∷ []))
+    ⊎ ((length t.before.books.pairs < 64) × (t.outcomes ≡ []) × ((after_turn t).books.pairs ≡ t.before.books.pairs ++ p ∷ []))))
 
 -- before the turn the call was keyed manually
 abbrev pub WasManual : Turn → Call → Type 0
