@@ -250,7 +250,7 @@ module _ (side : Side) (offer : sdp.Sdp) (noise : List ℕ) (slot : ℕ) (f : Op
 
 -- ---- the text
 
-told_back : Agreements → (slot : ℕ) (o : Offer) (noise text : List ℕ) (g : AgreedAnswer) → WasOffered o → agreed_answer slot o noise text ≡ Ok g
+pub told_back : Agreements → (slot : ℕ) (o : Offer) (noise text : List ℕ) (g : AgreedAnswer) → WasOffered o → agreed_answer slot o noise text ≡ Ok g
     → (answer : sdp.Sdp) × (description_of text ≡ Ok answer) × IsToldBack slot o noise answer g.text
 unfolding agreed_answer carried_text
 told_back laws slot o noise text g was e =

@@ -59,11 +59,12 @@ use Rattle.sg_gateway.specs.Generations.{Settled, keyed}
 use Rattle.sg_gateway.specs.Runs.{turns}
 use Rattle.sg_gateway.specs.Signals.{Answer, Answered, answer_to, answered as answers, in_old, offering_side, tells_answer}
 use Rattle.sg_conduct.proofs.Acceptable.{octets_are}
-use Rattle.sg_conduct.proofs.Brought.{OpenedBy, WereOpened, event_opened, keys_brought, was_offered, was_opened}
+use Rattle.sg_conduct.proofs.Brought.{keys_brought}
 use Rattle.sg_conduct.proofs.FirstLines.{first_value}
 use Rattle.sg_conduct.proofs.Firsts.{suite_is}
 use Rattle.sg_conduct.proofs.Manual.{apart_is, secret}
 use Rattle.sg_conduct.proofs.Offers.{active_takes}
+use Rattle.sg_conduct.proofs.Opened.{OpenedBy, WereOpened, event_opened, was_offered, was_opened}
 use Rattle.sg_conduct.proofs.Present.{takes_active}
 use Rattle.sg_conduct.proofs.Serving.{Serves, offer_serves}
 use Rattle.sg_conduct.specs.Brought.{AreBrought}
@@ -729,14 +730,14 @@ module _ (laws : Agreements) (ts : List Turn) (w : World) (opened : WereOpened t
   keyed_one g e = answer_keyed c.slot o noise text g e
 
   abbrev Showing : Refusal → Type 0
-  Showing = Shows w.books.ring (AreBrought ts id o noise text) o text
+  Showing = Shows w.books.ring (AreBrought ts c.slot id o noise text) o text
 
   refused_shows : (cause : Refusal) → answered_to w.moment w.books c noise text (Some o) ≡ Err cause → Showing cause
   refused_shows cause e = elim (after_ok_err (agreed_answer c.slot o noise text) (λ a. keyed w.moment w.books c a.text a.media) cause e) [
-    | inl fails ↦ answer_shows w.books.ring (AreBrought ts id o noise text) c.slot o (offer_serves o was) noise text cause fails
+    | inl fails ↦ answer_shows w.books.ring (AreBrought ts c.slot id o noise text) c.slot o (offer_serves o was) noise text cause fails
     | inr g ↦ elim (after_ok_err (generation_of c.serial c.generations w.books.ring g.0.media) _ cause g.2) [
       | inl fails ↦ elim (after_ok_err (install w.books.ring (keys_from c.serial c.generations 0 g.0.media)) _ cause fails) [
-        | inl full ↦ ring_refuses w.books.ring (AreBrought ts id o noise text) Showing (λ number is. (keyed_one g.0 g.1, is)) (λ is. (keyed_one g.0 g.1, is)) (keys_from c.serial c.generations 0 g.0.media) (keys_brought laws ts id o noise text c by g.0 g.1) (keys_are_few g.0 g.1) cause full
+        | inl full ↦ ring_refuses w.books.ring (AreBrought ts c.slot id o noise text) Showing (λ number is. (keyed_one g.0 g.1, is)) (λ is. (keyed_one g.0 g.1, is)) (keys_from c.serial c.generations 0 g.0.media) (keys_brought laws ts id o noise text c by g.0 g.1) (keys_are_few g.0 g.1) cause full
         | inr x ↦ absurd (ok_err _ cause x.2)
       ]
       | inr x ↦ absurd (ok_err _ cause x.2)
@@ -766,7 +767,7 @@ module _ (laws : Agreements) (ts : List Turn) (w : World) (opened : WereOpened t
 
 turn_shows : Agreements → (ts : List Turn) (w : World) → WereOpened ts w → (e : Event) → RefusedAnswerShowsCause ts (turn_of w e)
 turn_shows laws ts w opened e id noise text c o same at open_one =
-    subst (λ (e : Event). Any IsRefusal (step w e).outcomes → (cause : Refusal) × ((step w e).outcomes ≡ Refused (Some id) cause ∷ []) × Shows w.books.ring (AreBrought ts id o noise text) o text cause) (sym same)
+    subst (λ (e : Event). Any IsRefusal (step w e).outcomes → (cause : Refusal) × ((step w e).outcomes ≡ Refused (Some id) cause ∷ []) × Shows w.books.ring (AreBrought ts c.slot id o noise text) o text cause) (sym same)
     (refusal_shows laws ts w opened id noise text c o at open_one)
 
 pub refused_show : Agreements → (events : List Event) (earlier later : List Turn) (t : Turn) → turns events ≡ earlier ++ t ∷ later → RefusedAnswerShowsCause earlier t

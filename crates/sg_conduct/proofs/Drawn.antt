@@ -16,7 +16,6 @@ use Rattle.sg_agreement.specs.Offers.{AgreedOffer, accepted_offer, agreed_offer,
 use Rattle.sg_agreement.specs.Streams.{line_key}
 use Rattle.sg_agreement.specs.TextLines.{HasNoMessage}
 use Rattle.sg_base.specs.declared.faults.SdesFault.TheVariants.{Tag, Suite}
-use Rattle.sg_outcome.specs.declared.outcomes.Outcome.TheVariants as outcomes
 use Rattle.sg_psk.specs.Sending.{Sent, sent_of, sent_under}
 use Rattle.sg_sdes.specs.Answers.{answer_by, matched, offered_by, same_suite}
 use Rattle.sg_sdes.specs.CryptoOf.{crypto_of}
@@ -27,17 +26,17 @@ use Rattle.sg_sdp.specs.declared.sdp.Sdp.{Sdp}
 use Rattle.sg_gateway.proofs.Common.{AtHand, Call, CallId, CryptoLine, Direction, Event, FromSecure, Keyed, Kind, Master, Medium, MikeyFromPlain, Opening}
 use Rattle.sg_gateway.proofs.Common.{Pair, Plain, Refusal, Rtcp, Rtp, SdesFromPlain, Sealing, Secure, Session, Side, Stream, Turn, Way, World, actives_after}
 use Rattle.sg_gateway.proofs.Common.{after_ok, after_ok_is, any_here, any_there, any_weaker, call_of, each_active, each_append, each_kept, empty, if_active}
-use Rattle.sg_gateway.proofs.Common.{if_kept, is_active, is_with, keys_of, media_agreed, numbered, of_psk, of_sdes, offer_is, ok_is, other_side, owner_at}
-use Rattle.sg_gateway.proofs.Common.{pair_with, same_id, same_octets_is, sessions_from, side_of, some_is, step, stream_session, stream_sessions, turn_of}
+use Rattle.sg_gateway.proofs.Common.{if_kept, is_active, is_with, keys_of, media_agreed, numbered, of_psk, of_sdes, ok_is, other_side, owner_at}
+use Rattle.sg_gateway.proofs.Common.{pair_with, same_octets_is, sessions_from, side_of, some_is, step, stream_session, stream_sessions, turn_of}
 use Rattle.sg_gateway.proofs.Addressed.{IsAnswered, answered_now}
-use Rattle.sg_gateway.proofs.ByTexts.{MadeBy, WasMade, WereMade, event_made, same_call_id}
+use Rattle.sg_gateway.proofs.ByTexts.{MadeBy}
 use Rattle.sg_gateway.proofs.CarriedOut.{of_generation}
 use Rattle.sg_gateway.proofs.LineSessions.{masters_of}
-use Rattle.sg_gateway.proofs.Signals.{found}
 use Rattle.sg_gateway.proofs.TurnByTurn.{kept_before}
 use Rattle.sg_gateway.specs.Generations.{keyed}
 use Rattle.sg_gateway.specs.Signals.{Answered, answer_to}
-use Rattle.sg_conduct.specs.Drawn.{AnswerDraws, AreDrawn, IsDrawn, TellsDrawn, IsForAnswer, IsForOffer, IsOfferOf, OwnKeysAreDrawn, SealsUnder}
+use Rattle.sg_conduct.proofs.Opened.{OpenedBy, WereOpened, event_opened, opens_it, was_opened}
+use Rattle.sg_conduct.specs.Drawn.{AnswerDraws, AreDrawn, IsDrawn, TellsDrawn, IsForAnswer, IsForOffer, Opens, OwnKeysAreDrawn, SealsUnder}
 
 -- ---- a line that is matched
 
@@ -269,51 +268,39 @@ offer_message h peer text a e =
       tells_message h.slot p.0 r.0,
     )
 
-pub draws : (u : Turn) (id : CallId) (way : Way) (drawn : List ℕ) (c d : Call) (o : Offer) (noise text : List ℕ) (by : MadeBy id o u) → by.way ≡ way → by.noise ≡ drawn → LinesOf way drawn o → (a : IsAnswered c d o noise text)
-    → AreDrawn u id way drawn o.description noise d
+draws : (u : Turn) (id : CallId) (way : Way) (drawn : List ℕ) (c d : Call) (o : Offer) (noise text : List ℕ) (by : MadeBy id o u) → by.way ≡ way → by.noise ≡ drawn → LinesOf way drawn o → (a : IsAnswered c d o noise text)
+    → AreDrawn u.before.books.pairs way drawn by.accepted.text o.description noise d
 draws u id FromSecure drawn c d o noise text by of_way of_noise lines a = λ none.
     let ls = lines none in
     seals_under (IsForAnswer noise) c d o noise text a (peers_answer c.slot o noise text a.agreement ls.0 ls.1 a.agreed)
 draws u id SdesFromPlain drawn c d o noise text by of_way of_noise lines a = seals_under (IsForOffer drawn) c d o noise text a (own_answer c.slot o drawn noise text a.agreement lines.0 lines.1 lines.2 a.agreed)
-draws u id (MikeyFromPlain peer) drawn c d o noise text by of_way of_noise lines a = (
-  by.accepted.text,
-  subst (λ (way : Way). Any (λ x. x ≡ outcomes.Sdp id (other_side (side_of way)) by.accepted.text) u.outcomes) of_way by.tells,
-  subst (λ (n : List ℕ). TellsDrawn u.before.books.pairs peer n by.accepted.text) (by.drawn ∙ of_noise)
-      (subst (λ (pairs : List Pair). TellsDrawn pairs peer by.hand.noise by.accepted.text) by.pairs
-      (offer_message by.hand peer by.text by.accepted (ap (λ (way : Way). agreed_offer by.hand way by.text) (sym of_way) ∙ by.agreed))),
-)
+draws u id (MikeyFromPlain peer) drawn c d o noise text by of_way of_noise lines a =
+    subst (λ (n : List ℕ). TellsDrawn u.before.books.pairs peer n by.accepted.text) (by.drawn ∙ of_noise)
+    (subst (λ (pairs : List Pair). TellsDrawn pairs peer by.hand.noise by.accepted.text) by.pairs
+    (offer_message by.hand peer by.text by.accepted (ap (λ (way : Way). agreed_offer by.hand way by.text) (sym of_way) ∙ by.agreed)))
 
-module _ (ts : List Turn) (w : World) (made : WereMade ts w) (id : CallId) (noise text : List ℕ) (c : Call) (o : Offer) (at : call_of w id ≡ Some c) (open_one : c.offer ≡ Some o) where
-  abbrev IsDrawnIn : Call → Type 0
-  IsDrawnIn d = Any (λ u. (x : IsOfferOf u id o) × AreDrawn u id x.way x.drawn o.description noise d) ts
+pub drawn_by : (id : CallId) (o : Offer) (u : Turn) (by : MadeBy id o u) (c d : Call) (noise text : List ℕ) → IsAnswered c d o noise text → AreDrawn u.before.books.pairs by.way by.noise by.accepted.text o.description noise d
+drawn_by id o u by c d noise text a =
+    let lines : LinesOf by.way by.noise o = subst (LinesOf by.way by.noise) by.same (subst (λ n. LinesOf by.way n by.accepted.offer) by.drawn (offer_lines by.hand by.way by.text by.accepted by.agreed)) in
+    draws u id by.way by.noise c d o noise text by refl refl lines a
 
-  was : Any (MadeBy id o) ts
-  was = subst (λ i. Any (MadeBy i o) ts) (same_call_id id c w.calls at) (found (WasMade ts) (λ x. same_id x.id id) w.calls c at made o open_one)
+module _ (ts : List Turn) (w : World) (opened : WereOpened ts w) (id : CallId) (noise text : List ℕ) (c : Call) (o : Offer) (at : call_of w id ≡ Some c) (open_one : c.offer ≡ Some o) where
+  abbrev IsDrawnIn : Call → Turn → Type 0
+  IsDrawnIn d u = (x : Opens u id o) × AreDrawn u.before.books.pairs x.way x.drawn x.forth o.description noise d
 
-  of_turn : (d : Call) → IsAnswered c d o noise text → (u : Turn) → MadeBy id o u → (x : IsOfferOf u id o) × AreDrawn u id x.way x.drawn o.description noise d
-  of_turn d a u by =
-      let of_offer = offer_is by.hand by.way by.text by.accepted by.agreed in
-      let lines : LinesOf by.way by.noise o = subst (LinesOf by.way by.noise) by.same (subst (λ n. LinesOf by.way n by.accepted.offer) by.drawn (offer_lines by.hand by.way by.text by.accepted by.agreed)) in (
-        record {
-          way = by.way;
-          drawn = by.noise;
-          text = by.text;
-          event = by.event;
-          side = ap (λ (o : Offer). o.side) (sym by.same) ∙ of_offer.0;
-          described = of_offer.1 ∙ ap (λ (o : Offer). Ok o.description) by.same;
-        },
-        draws u id by.way by.noise c d o noise text by refl refl lines a,
-      )
+  of_turn : (d : Call) → IsAnswered c d o noise text → (u : Turn) → OpenedBy id o u → IsDrawnIn d u
+  unfolding opens_it
+  of_turn d a u by = (opens_it id o u by, drawn_by id o u by.0 c d noise text a)
 
-  answer_draws : (d : Call) → call_of (answer_to w (Answered id noise text)).world id ≡ Some d → d.generations ≡ c.generations + 1 → IsDrawnIn d
-  answer_draws d now more = any_weaker (MadeBy id o) _ (λ u by. of_turn d (answered_now w id noise text c o at open_one d now more) u by) ts was
+  answer_draws : (d : Call) → call_of (answer_to w (Answered id noise text)).world id ≡ Some d → d.generations ≡ c.generations + 1 → Any (IsDrawnIn d) ts
+  answer_draws d now more = any_weaker (OpenedBy id o) (IsDrawnIn d) (λ u by. of_turn d (answered_now w id noise text c o at open_one d now more) u by) ts (was_opened ts w opened id c o at open_one)
 
 -- ---- a run
 
-turn_draws : (ts : List Turn) (w : World) → WereMade ts w → (e : Event) → AnswerDraws ts (turn_of w e)
-turn_draws ts w made e id noise text c d o same at open_one =
-    subst (λ (e : Event). call_of (step w e).world id ≡ Some d → d.generations ≡ c.generations + 1 → Any (λ u. (x : IsOfferOf u id o) × AreDrawn u id x.way x.drawn o.description noise d) ts)
-    (sym same) (answer_draws ts w made id noise text c o at open_one d)
+turn_draws : (ts : List Turn) (w : World) → WereOpened ts w → (e : Event) → AnswerDraws ts (turn_of w e)
+turn_draws ts w opened e id noise text c d o same at open_one =
+    subst (λ (e : Event). call_of (step w e).world id ≡ Some d → d.generations ≡ c.generations + 1 → Any (IsDrawnIn ts w opened id noise text c o at open_one d) ts)
+    (sym same) (answer_draws ts w opened id noise text c o at open_one d)
 
 pub own_keys_drawn : (events : List Event) → OwnKeysAreDrawn events
-own_keys_drawn events = kept_before WereMade event_made AnswerDraws turn_draws [] empty events tt
+own_keys_drawn events = kept_before WereOpened event_opened AnswerDraws turn_draws [] empty events tt

@@ -25,13 +25,12 @@ use Rattle.sg_sdp.specs.declared.medium.Medium as descriptions
 use Rattle.sg_sdp.specs.declared.sdp.Sdp.{Sdp}
 use Rattle.sg_gateway.proofs.Common.{AtHand, Call, CallId, CryptoLine, Direction, Event, FromSecure, IsMediumAt, Keyed, Keying, Kind, Medium, MikeyFromPlain, Offer, Opening, OwnLines, PeerLines, Plain, Rtcp, Rtp, SdesFromPlain, Sealing, Secure, Session, Side}
 use Rattle.sg_gateway.proofs.Common.{Stream, Turn, Way, World, actives_after, after_ok_is, any_here, any_there, any_weaker, call_of, described_is, description_of, each_active, each_append, each_kept, each_weaker, empty, if_kept, keys_of}
-use Rattle.sg_gateway.proofs.Common.{media_agreed, numbered, of_sdes, offer_is, ok_is, other_side, owner_at, same_id, sessions_from, side_of, some_is, step, stream_session, stream_sessions, turn_of}
+use Rattle.sg_gateway.proofs.Common.{media_agreed, numbered, of_sdes, ok_is, other_side, owner_at, sessions_from, side_of, some_is, step, stream_session, stream_sessions, turn_of}
 use Rattle.sg_gateway.proofs.Addressed.{IsAnswered, answered_now}
-use Rattle.sg_gateway.proofs.ByTexts.{MadeBy, WasMade, WereMade, event_made, same_call_id}
+use Rattle.sg_gateway.proofs.ByTexts.{MadeBy}
 use Rattle.sg_gateway.proofs.CarriedOut.{of_generation}
 use Rattle.sg_gateway.proofs.LineSessions.{masters_of, mkis_of}
 use Rattle.sg_gateway.proofs.MediaSessions.{each_stream}
-use Rattle.sg_gateway.proofs.Signals.{found}
 use Rattle.sg_gateway.proofs.TurnByTurn.{kept_before}
 use Rattle.sg_gateway.specs.ByTexts.{HasWindow, is_plain, line_towards}
 use Rattle.sg_gateway.specs.CryptoSessions.{life_of, tag_octets}
@@ -39,8 +38,9 @@ use Rattle.sg_gateway.specs.Runs.{turns}
 use Rattle.sg_gateway.specs.Signals.{Answered, answer_to}
 use Rattle.sg_conduct.proofs.Drawn.{AllAt, each_active_at, each_kept_at, kept_some, masters_mapped, rest_at, some_at, this_at}
 use Rattle.sg_conduct.proofs.FirstLines.{IsFirstAt, Placed, at_head, at_rest, at_start, first_matched, offer_first}
+use Rattle.sg_conduct.proofs.Opened.{OpenedBy, WereOpened, event_opened, opens_it, was_opened}
 use Rattle.sg_conduct.specs.Carried.{lines_of}
-use Rattle.sg_conduct.specs.Drawn.{IsOfferOf, noise_for}
+use Rattle.sg_conduct.specs.Drawn.{Opens, noise_for}
 use Rattle.sg_conduct.specs.Firsts.{AnswerIsByFirst, AnswersIt, AreByFirst, AreByFirstLines, IsAnsweredByIt, IsByFirst}
 
 -- ---- suites
@@ -259,7 +259,7 @@ are_first Goes peers c d o noise text a all =
     (of_generation c d (sessions_from c.serial c.generations 0 a.number a.agreement.media) (IsByFirst Goes peers) a.sessions a.generations (sessions_by Goes peers c.serial c.generations 0 a.number a.agreement.media all))
 
 module _ (c d : Call) (noise text : List ℕ) (answer : Sdp) (read : description_of text ≡ Ok answer) where
-  pub by_first : (h : AtHand) (way : Way) (offered : List ℕ) (g : AgreedOffer) → agreed_offer h way offered ≡ Ok g → IsAnswered c d g.offer noise text → AreByFirstLines way h.noise g.offer.description noise answer d
+  by_first : (h : AtHand) (way : Way) (offered : List ℕ) (g : AgreedOffer) → agreed_offer h way offered ≡ Ok g → IsAnswered c d g.offer noise text → AreByFirstLines way h.noise g.offer.description noise answer d
   by_first h FromSecure offered g e a = λ none.
       let p = offer_first h offered g e none in
       are_first (AnswersIt noise) g.offer.description.media c d g.offer noise text a (peers_agree c.slot g.offer noise text a.agreement p.0 p.1 p.2 a.agreed)
@@ -268,34 +268,29 @@ module _ (c d : Call) (noise text : List ℕ) (answer : Sdp) (read : description
       are_first (IsAnsweredByIt h.noise) answer.media c d g.offer noise text a (owns_agree c.slot g.offer h.noise noise text a.agreement answer p.0 p.1 p.2 read a.agreed)
   by_first h (MikeyFromPlain peer) offered g e a = tt
 
-module _ (ts : List Turn) (w : World) (made : WereMade ts w) (id : CallId) (noise text : List ℕ) (c : Call) (o : Offer) (at : call_of w id ≡ Some c) (open_one : c.offer ≡ Some o) where
-  was : Any (MadeBy id o) ts
-  was = subst (λ i. Any (MadeBy i o) ts) (same_call_id id c w.calls at) (found (WasMade ts) (λ x. same_id x.id id) w.calls c at made o open_one)
+pub first_by : (id : CallId) (o : Offer) (u : Turn) (by : MadeBy id o u) (c d : Call) (noise text : List ℕ) (answer : Sdp) → description_of text ≡ Ok answer → IsAnswered c d o noise text
+    → AreByFirstLines by.way by.noise o.description noise answer d
+first_by id o u by c d noise text answer read a =
+    subst (λ (o : Offer). AreByFirstLines by.way by.noise o.description noise answer d) by.same
+    (subst (λ (drawn : List ℕ). AreByFirstLines by.way drawn by.accepted.offer.description noise answer d) by.drawn
+    (by_first c d noise text answer read by.hand by.way by.text by.accepted by.agreed (subst (λ (o : Offer). IsAnswered c d o noise text) (sym by.same) a)))
 
-  of_turn : (d : Call) (answer : Sdp) → description_of text ≡ Ok answer → IsAnswered c d o noise text → (u : Turn) → MadeBy id o u → (x : IsOfferOf u id o) × AreByFirstLines x.way x.drawn o.description noise answer d
-  of_turn d answer read a u by =
-      let of_offer = offer_is by.hand by.way by.text by.accepted by.agreed in (
-        record {
-          way = by.way;
-          drawn = by.noise;
-          text = by.text;
-          event = by.event;
-          side = ap (λ (o : Offer). o.side) (sym by.same) ∙ of_offer.0;
-          described = of_offer.1 ∙ ap (λ (o : Offer). Ok o.description) by.same;
-        },
-        subst (λ (o : Offer). AreByFirstLines by.way by.noise o.description noise answer d) by.same
-            (subst (λ (drawn : List ℕ). AreByFirstLines by.way drawn by.accepted.offer.description noise answer d) by.drawn
-            (by_first c d noise text answer read by.hand by.way by.text by.accepted by.agreed (subst (λ (o : Offer). IsAnswered c d o noise text) (sym by.same) a))),
-      )
+module _ (ts : List Turn) (w : World) (opened : WereOpened ts w) (id : CallId) (noise text : List ℕ) (c : Call) (o : Offer) (at : call_of w id ≡ Some c) (open_one : c.offer ≡ Some o) where
+  abbrev IsFirstIn : Call → Sdp → Turn → Type 0
+  IsFirstIn d answer u = (x : Opens u id o) × AreByFirstLines x.way x.drawn o.description noise answer d
 
-  answer_first : (d : Call) (answer : Sdp) → call_of (answer_to w (Answered id noise text)).world id ≡ Some d → d.generations ≡ c.generations + 1 → description_of text ≡ Ok answer
-      → Any (λ u. (x : IsOfferOf u id o) × AreByFirstLines x.way x.drawn o.description noise answer d) ts
-  answer_first d answer now more read = any_weaker (MadeBy id o) _ (λ u by. of_turn d answer read (answered_now w id noise text c o at open_one d now more) u by) ts was
+  of_turn : (d : Call) (answer : Sdp) → description_of text ≡ Ok answer → IsAnswered c d o noise text → (u : Turn) → OpenedBy id o u → IsFirstIn d answer u
+  unfolding opens_it
+  of_turn d answer read a u by = (opens_it id o u by, first_by id o u by.0 c d noise text answer read a)
 
-turn_first : (ts : List Turn) (w : World) → WereMade ts w → (e : Event) → AnswerIsByFirst ts (turn_of w e)
-turn_first ts w made e id noise text c d o answer same at open_one =
-    subst (λ (e : Event). call_of (step w e).world id ≡ Some d → d.generations ≡ c.generations + 1 → description_of text ≡ Ok answer → Any (λ u. (x : IsOfferOf u id o) × AreByFirstLines x.way x.drawn o.description noise answer d) ts)
-    (sym same) (answer_first ts w made id noise text c o at open_one d answer)
+  answer_first : (d : Call) (answer : Sdp) → call_of (answer_to w (Answered id noise text)).world id ≡ Some d → d.generations ≡ c.generations + 1 → description_of text ≡ Ok answer → Any (IsFirstIn d answer) ts
+  answer_first d answer now more read =
+      any_weaker (OpenedBy id o) (IsFirstIn d answer) (λ u by. of_turn d answer read (answered_now w id noise text c o at open_one d now more) u by) ts (was_opened ts w opened id c o at open_one)
+
+turn_first : (ts : List Turn) (w : World) → WereOpened ts w → (e : Event) → AnswerIsByFirst ts (turn_of w e)
+turn_first ts w opened e id noise text c d o answer same at open_one =
+    subst (λ (e : Event). call_of (step w e).world id ≡ Some d → d.generations ≡ c.generations + 1 → description_of text ≡ Ok answer → Any (IsFirstIn ts w opened id noise text c o at open_one d answer) ts)
+    (sym same) (answer_first ts w opened id noise text c o at open_one d answer)
 
 pub answers_by_first : (events : List Event) (earlier later : List Turn) (t : Turn) → turns events ≡ earlier ++ t ∷ later → AnswerIsByFirst earlier t
-answers_by_first events = kept_before WereMade event_made AnswerIsByFirst turn_first [] empty events tt
+answers_by_first events = kept_before WereOpened event_opened AnswerIsByFirst turn_first [] empty events tt

@@ -15,6 +15,7 @@ mod Manual
 mod Notes
 mod OfferRefusals
 mod Offers
+mod Opened
 mod Others
 mod OwnTexts
 mod Partners

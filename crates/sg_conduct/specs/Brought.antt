@@ -1,35 +1,23 @@
 -- The keys that an answer brings into use where it isn't refused: the master keys of the sessions that it gives its call.
-use Rattle.std.specs.Prelude.{◌≡◌, ◌⊎◌, ◌<◌, ℕ, ◌+◌, List, [], map, Some, Ok}
+use Rattle.std.specs.Prelude.{◌≡◌, ◌⊎◌, ◌<◌, ℕ, ◌+◌, List, [], map, Ok}
 use Rattle.std.specs.List.{AllByRecursion, AllPairs, Any, flat_map}
 use Rattle.sg_agreement.specs.Keying.{Offer}
-use Rattle.sg_agreement.specs.Sides.{other_side}
 use Rattle.sg_base.specs.Keys.{Master}
 use Rattle.sg_base.specs.declared.addresses.CallId.{CallId}
 use Rattle.sg_base.specs.declared.addresses.Kind.{Kind}
 use Rattle.sg_base.specs.declared.addresses.Kind.TheVariants.{Rtp, Rtcp}
-use Rattle.sg_outcome.specs.declared.outcomes.Outcome.TheVariants as outcomes
 use Rattle.sg_sdp.specs.Reading.{description_of}
 use Rattle.sg_sdp.specs.declared.sdp.Sdp.{Sdp}
 use Rattle.sg_session.specs.Session.{Session}
 use Rattle.sg_session.specs.declared.names.Direction.TheVariants.{Opening}
 use Rattle.sg_gateway.specs.ByTexts.{AreByTexts}
 use Rattle.sg_gateway.specs.Order.{DifferInName}
-use Rattle.sg_gateway.specs.Runs.{Turn, after_turn}
-use Rattle.sg_gateway.specs.World.{Call, call_of}
-use Rattle.sg_conduct.specs.Drawn.{AreDrawn, IsOfferOf}
+use Rattle.sg_gateway.specs.Runs.{Turn}
+use Rattle.sg_gateway.specs.World.{Call}
+use Rattle.sg_conduct.specs.CarriedBack.{IsToldBack}
+use Rattle.sg_conduct.specs.Drawn.{AreDrawn, Opens}
 use Rattle.sg_conduct.specs.Firsts.{AreByFirstLines}
 use Rattle.sg_conduct.specs.Present.{IsOfPartners, MediaHaveSessions}
-
--- ---- the open offer
-
--- In this turn it came and its text was told to the other side, and from then on it is the call's open offer.
-pub record Opens (u : Turn) (id : CallId) (o : Offer) : Type 0 where
-  pub came : IsOfferOf u id o
-  pub forth : List ℕ
-  pub tells_forth : Any (λ x. x ≡ outcomes.Sdp id (other_side o.side) forth) u.outcomes
-  pub call : Call
-  pub found : call_of (after_turn u) id ≡ Some call
-  pub is_open : call.offer ≡ Some o
 
 -- ---- the sessions
 
@@ -65,16 +53,17 @@ master_keys sessions = flat_map (λ s. keys_for s.name.kind (map (λ k. k.master
 -- an answer that is taken: by the peer's first crypto line that is read and the gateway's that goes with it (RFC 4568, 5.1.2 and
 -- 5.1.3), or under the TGKs of their MIKEY messages (RFC 3830, 4.1.3 and 6.1.1); and what the gateway makes is of the noise of
 -- the two. The text `back` is one that could have been told of this answer.
-pub record AreBrought (earlier : List Turn) (id : CallId) (o : Offer) (noise text : List ℕ) (masters : List Master) : Type 0 where
+pub record AreBrought (earlier : List Turn) (slot : ℕ) (id : CallId) (o : Offer) (noise text : List ℕ) (masters : List Master) : Type 0 where
   pub of_offer : Turn
   pub was_earlier : Any (λ u. u ≡ of_offer) earlier
   pub opens : Opens of_offer id o
   pub answer : Sdp
   pub in_answer : description_of text ≡ Ok answer
   pub back : List ℕ
+  pub told : IsToldBack slot o noise answer back
   pub call : Call
   pub of_answer : IsOfAnswer o answer call
-  pub by_texts : AreByTexts of_offer.before.books.pairs opens.came.way o.description answer opens.forth back call
-  pub first : AreByFirstLines opens.came.way opens.came.drawn o.description noise answer call
-  pub drawn : AreDrawn of_offer id opens.came.way opens.came.drawn o.description noise call
+  pub by_texts : AreByTexts of_offer.before.books.pairs opens.way o.description answer opens.forth back call
+  pub first : AreByFirstLines opens.way opens.drawn o.description noise answer call
+  pub drawn : AreDrawn of_offer.before.books.pairs opens.way opens.drawn opens.forth o.description noise call
   pub are : masters ≡ master_keys call.sessions

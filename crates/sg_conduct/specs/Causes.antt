@@ -225,7 +225,7 @@ abbrev pub RefusedAnswerShowsCause : List Turn → Turn → Type 0
 RefusedAnswerShowsCause earlier t =
     (id : CallId) (noise text : List ℕ) (c : Call) (o : Offer) → t.event ≡ Signalled (Answered id noise text)
     → call_of t.before id ≡ Some c → c.offer ≡ Some o → IsRefused t
-    → (cause : Refusal) × (t.outcomes ≡ Refused (Some id) cause ∷ []) × Shows t.before.books.ring (AreBrought earlier id o noise text) o text cause
+    → (cause : Refusal) × (t.outcomes ≡ Refused (Some id) cause ∷ []) × Shows t.before.books.ring (AreBrought earlier c.slot id o noise text) o text cause
 
 -- So in a run. And the gateway makes no cause by itself: no packet, pre-shared key or manual line closes an open offer, no key comes
 -- into the ring without a session under it, and none is noted but the messages of offers that are open then. Ticks alone move the

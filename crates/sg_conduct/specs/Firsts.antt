@@ -20,7 +20,7 @@ use Rattle.sg_gateway.specs.Step.{Signalled}
 use Rattle.sg_gateway.specs.World.{Call, call_of}
 use Rattle.sg_conduct.specs.Carried.{IsFirstLine, lines_of}
 use Rattle.sg_conduct.specs.CarriedBack.{answer_to}
-use Rattle.sg_conduct.specs.Drawn.{IsOfferOf, noise_for}
+use Rattle.sg_conduct.specs.Drawn.{Opens, noise_for}
 
 -- ---- the gateway's line, of the medium of this number
 
@@ -60,4 +60,4 @@ abbrev pub AnswerIsByFirst : List Turn → Turn → Type 0
 AnswerIsByFirst earlier t =
     (id : CallId) (noise text : List ℕ) (c d : Call) (o : Offer) (answer : Sdp) → t.event ≡ Signalled (Answered id noise text)
     → call_of t.before id ≡ Some c → c.offer ≡ Some o → call_of (after_turn t) id ≡ Some d → d.generations ≡ c.generations + 1
-    → description_of text ≡ Ok answer → Any (λ u. (x : IsOfferOf u id o) × AreByFirstLines x.way x.drawn o.description noise answer d) earlier
+    → description_of text ≡ Ok answer → Any (λ u. (x : Opens u id o) × AreByFirstLines x.way x.drawn o.description noise answer d) earlier
