@@ -17,7 +17,7 @@ use Rattle.sg_agreement.specs.Sides.{active_count, actives, is_active, other_sid
 use Rattle.sg_base.specs.declared.faults.Refusal.TheVariants.{State, TableFull}
 use Rattle.sg_base.specs.declared.faults.SdesFault.{SdesFault}
 use Rattle.sg_outcome.specs.declared.outcomes.Outcome.TheVariants.{Made, Refused, Sdp}
-use Rattle.sg_psk.specs.Sending.{Sent, own_map, sent_of, sent_under}
+use Rattle.sg_psk.specs.Sending.{Sent, initial_octets, own_map, sent_of, sent_under}
 use Rattle.sg_psk.specs.Stamps.{stamp_of}
 use Rattle.sg_sdes.specs.Answers.{chosen_of, offered_by, or_next}
 use Rattle.sg_sdes.specs.CryptoOf.{crypto_of}
@@ -36,9 +36,11 @@ use Rattle.sg_gateway.specs.Taken.{HasOpen, IsAgreed, LaterOfferIsTaken, NewOffe
 use Rattle.sg_conduct.proofs.Carried.{AreAdded, attributes_are, lines_carried, media_carried}
 use Rattle.sg_conduct.proofs.Drawn.{sent_drawn}
 use Rattle.sg_conduct.proofs.Offers.{active_takes}
+use Rattle.sg_conduct.proofs.OwnPayloads.{initial_is}
 use Rattle.sg_conduct.proofs.Present.{takes_active}
 use Rattle.sg_conduct.specs.Carried.{AddsToMedium, AddsToSession, AreOfMedia, AreSessionsOf, IsFirstLine, IsFirstWith, IsKeyed, IsOfMedium, IsOpenOffer, IsOwnMessage, IsToldForth, OfferIsCarried, OfferMakes, OfferOpens, lines_of}
 use Rattle.sg_conduct.specs.Drawn.{IsDrawn, noise_for}
+use Rattle.sg_conduct.specs.OwnPayloads.{IsInitial}
 
 -- ---- each medium
 
@@ -150,6 +152,11 @@ own_message w peer noise s (Some pair) sent at e =
       sessions = sessions_of s.media;
     })
 
+own_initial : (pair : Option Pair) (now : ℕ) (noise ssrcs : List ℕ) (sent : Sent) → sent_under now noise ssrcs pair ≡ Ok sent → IsInitial sent (initial_octets sent)
+own_initial None now noise ssrcs sent e = absurd cc
+own_initial (Some pair) now noise ssrcs sent e =
+    subst (λ (sent : Sent). IsInitial sent (initial_octets sent)) (ok_is (sent_of pair now noise ssrcs) sent e) (initial_is pair now noise ssrcs)
+
 -- ---- how the offer is keyed
 
 record Keys (w : World) (way : Way) (noise : List ℕ) (s : sdp.Sdp) (k : Keying) : Type 0 where
@@ -192,8 +199,9 @@ module _ (w : World) (c : Call) (noise : List ℕ) (s : sdp.Sdp) where
   message_keys peer k e =
       let a = after_ok_is (of_psk 255 (sent_under w.moment noise (ssrcs_of Plain s.media) (pair_with w.books.pairs peer))) _ k e in
       let is = own_message w peer noise s (pair_with w.books.pairs peer) a.0 refl (psk_is 255 _ a.0 a.1) in
+      let initial = own_initial (pair_with w.books.pairs peer) w.moment noise (ssrcs_of Plain s.media) a.0 (psk_is 255 _ a.0 a.1) in
       subst (Keys w (MikeyFromPlain peer) noise s) (ok_is (OwnMessage a.0) k a.2)
-      (record { keyed = (a.0, refl, is); session = (a.0, is, refl); media = none_added (MikeyFromPlain peer) noise (λ k m. refl) 0 s.media })
+      (record { keyed = (a.0, refl, is); session = (a.0, is, (initial_octets a.0, initial, refl)); media = none_added (MikeyFromPlain peer) noise (λ k m. refl) 0 s.media })
 
   keys : (way : Way) (k : Keying) → keying_of hand s way ≡ Ok k → Keys w way noise s k
   keys FromSecure k e = secure_keys k e

@@ -17,6 +17,7 @@ mod OfferRefusals
 mod Offers
 mod Opened
 mod Others
+mod OwnPayloads
 mod OwnTexts
 mod Partners
 mod Places

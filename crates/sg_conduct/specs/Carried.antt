@@ -19,7 +19,7 @@ use Rattle.sg_base.specs.declared.suites.Suite.{Suite}
 use Rattle.sg_base.specs.declared.suites.Suite.TheVariants.{Cm128Tag80, Cm256Tag80}
 use Rattle.sg_mikey.specs.declared.message.CsEntry.{CsEntry}
 use Rattle.sg_outcome.specs.declared.outcomes.Outcome.TheVariants as outcomes
-use Rattle.sg_psk.specs.Sending.{Sent, initial_octets}
+use Rattle.sg_psk.specs.Sending.{Sent}
 use Rattle.sg_psk.specs.declared.pairs.Pair.{Pair}
 use Rattle.sg_sdes.specs.CryptoOf.{crypto_of}
 use Rattle.sg_sdes.specs.declared.lines.CryptoLine.{CryptoLine}
@@ -37,6 +37,7 @@ use Rattle.sg_gateway.specs.Step.{Event, Signalled}
 use Rattle.sg_gateway.specs.World.{Call, World, call_of}
 use Rattle.sg_conduct.specs.Drawn.{IsDrawn, noise_for}
 use Rattle.sg_conduct.specs.Offers.{IsOpen}
+use Rattle.sg_conduct.specs.OwnPayloads.{IsInitial}
 use Rattle.sg_conduct.specs.OwnPorts.{port_towards}
 use Rattle.sg_conduct.specs.Present.{TakesPart}
 
@@ -167,7 +168,8 @@ abbrev pub AddsToSession : World → Way → List ℕ → Sdp → List (List ℕ
 AddsToSession w FromSecure noise s added = added ≡ []
 AddsToSession w SdesFromPlain noise s added = added ≡ []
 AddsToSession w (MikeyFromPlain peer) noise s added =
-    (sent : Sent) × IsOwnMessage w peer noise s sent × (added ≡ (codes "a=key-mgmt:mikey " ++ encode_of standard (initial_octets sent)) ∷ [])
+    (sent : Sent) × IsOwnMessage w peer noise s sent
+    × ((octets : List ℕ) × IsInitial sent octets × (added ≡ (codes "a=key-mgmt:mikey " ++ encode_of standard octets) ∷ []))
 
 -- ---- the text
 

@@ -2,11 +2,12 @@
 -- alone (RFC 3264, 6): its lines in their order, each medium in its place under the offer's protocol word, at the gateway's own
 -- port exactly where it takes part in both texts, and behind them what the gateway adds: to each medium that takes part in both
 -- the one line, or response, that keys it, and to another none.
-use Rattle.std.specs.Prelude.{◌≡◌, ◌⊎◌, ℕ, ◌+◌, List, [], ◌∷◌, ◌++◌, take, codes, Some, Ok}
+use Rattle.std.specs.Prelude.{◌≡◌, ◌⊎◌, ℕ, ◌+◌, List, [], ◌∷◌, ◌++◌, length, take, codes, Option, Some, Ok}
 use Rattle.std.specs.List.{AllByRecursion, Any}
 use Rattle.base64.specs.GeneralPurpose.{encode_of}
 use Rattle.base64.specs.Engines.{standard}
-use Rattle.sg_agreement.specs.Keying.{Offer}
+use Rattle.sg_agreement.specs.Keying.{Keying, PeerMessage, PeerMessages, Offer}
+use Rattle.sg_agreement.specs.Messages.{Bundle}
 use Rattle.sg_agreement.specs.Sides.{other_side}
 use Rattle.sg_agreement.specs.TextLines.{HasNoMessage, IsMessageLine}
 use Rattle.sg_base.specs.declared.addresses.CallId.{CallId}
@@ -14,6 +15,7 @@ use Rattle.sg_base.specs.declared.addresses.Side.{Side}
 use Rattle.sg_base.specs.declared.addresses.Side.TheVariants.{Secure, Plain}
 use Rattle.sg_base.specs.Suites.{key_len_of, salt_len_of}
 use Rattle.sg_outcome.specs.declared.outcomes.Outcome.TheVariants as outcomes
+use Rattle.sg_psk.specs.Accepting.{Accepted}
 use Rattle.sg_sdes.specs.CryptoText.{crypto_text}
 use Rattle.sg_sdes.specs.declared.lines.CryptoLine.{CryptoLine}
 use Rattle.sg_sdp.specs.Descriptions.{spelling}
@@ -29,6 +31,7 @@ use Rattle.sg_gateway.specs.Step.{Signalled}
 use Rattle.sg_gateway.specs.World.{Call, call_of}
 use Rattle.sg_conduct.specs.Carried.{AreCarried, IsFirstLine, own_line}
 use Rattle.sg_conduct.specs.Drawn.{noise_for}
+use Rattle.sg_conduct.specs.OwnPayloads.{IsResponse}
 use Rattle.sg_conduct.specs.OwnPorts.{port_towards}
 use Rattle.sg_conduct.specs.Present.{TakesPart}
 
@@ -61,17 +64,27 @@ pub record IsAnsweredMedium (side : Side) (slot number : ℕ) (added : List (Lis
 
 -- ---- what the gateway adds
 
-abbrev pub IsOneMessage : List (List ℕ) → Type 0
-IsOneMessage added = (octets : List ℕ) × (added ≡ (codes "a=key-mgmt:mikey " ++ encode_of standard octets) ∷ [])
+-- the line of a response
+abbrev pub IsOneResponse : Accepted → List descriptions.Medium → List descriptions.Medium → List (List ℕ) → Type 0
+IsOneResponse a ms ns added =
+    (octets : List ℕ) × IsResponse a ms ns octets × (added ≡ (codes "a=key-mgmt:mikey " ++ encode_of standard octets) ∷ [])
+
+-- the offer is keyed by messages of its media, and by this one in the medium of this number
+abbrev pub IsMessageOf : Keying → ℕ → Bundle → Type 0
+IsMessageOf keying number b =
+    (before behind : List (Option Bundle)) × (keying ≡ PeerMessages (before ++ Some b ∷ behind)) × (number ≡ length before)
 
 -- no line of these carries a message (RFC 4567, 3.1)
 abbrev pub HaveNoMessage : List (List ℕ) → Type 0
 HaveNoMessage lines = AllByRecursion (λ line. ¬ IsMessageLine line) lines
 
 -- to the session part: the response to the secure side's message for all media, where the session part of its offer has one
-abbrev pub AddsToAnswer : Side → Sdp → List (List ℕ) → Type 0
-AddsToAnswer Secure offer added = (Any IsMessageLine offer.session × IsOneMessage added) ⊎ (HaveNoMessage offer.session × (added ≡ []))
-AddsToAnswer Plain offer added = added ≡ []
+abbrev pub AddsToAnswer : Side → Offer → Sdp → List (List ℕ) → Type 0
+AddsToAnswer Secure o answer added =
+    (Any IsMessageLine o.description.session
+    × ((b : Bundle) × (o.keying ≡ PeerMessage b) × IsOneResponse b.initial o.description.media answer.media added))
+    ⊎ (HaveNoMessage o.description.session × (added ≡ []))
+AddsToAnswer Plain o answer added = added ≡ []
 
 -- The line that answers the peer's: under its tag and its suite, of one key without lifetime and MKI, the first octets of the
 -- medium's noise, and unencrypted where the peer's says so (RFC 4568, 5.1.2 and 6.3.2).
@@ -84,25 +97,29 @@ abbrev pub AnswersFirst : List ℕ → descriptions.Medium → List (List ℕ) �
 AnswersFirst noise m added = (peer : CryptoLine) × IsFirstLine m.lines peer × (added ≡ (codes "a=crypto:" ++ crypto_text (answer_to peer noise)) ∷ [])
 
 -- To a medium that takes part in both: where the secure side offered no message, that line; where the session part of its offer has
--- one, nothing; and where media alone have some, the response to the medium's own.
-abbrev pub AddsBack : Side → Sdp → List ℕ → descriptions.Medium → List (List ℕ) → Type 0
-AddsBack Secure offer noise m added =
-    (HasNoMessage offer × AnswersFirst noise m added)
-    ⊎ ((Any IsMessageLine offer.session × (added ≡ [])) ⊎ (HaveNoMessage offer.session × (¬ HasNoMessage offer) × IsOneMessage added))
-AddsBack Plain offer noise m added = added ≡ []
+-- one, nothing; and where media alone have some, the response to the medium's own
+-- (RFC 4567, 3.1).
+abbrev pub AddsBack : Side → Offer → List ℕ → ℕ → descriptions.Medium → descriptions.Medium → List (List ℕ) → Type 0
+AddsBack Secure o noise number m n added =
+    (HasNoMessage o.description × AnswersFirst (noise_for number noise) m added)
+    ⊎ ((Any IsMessageLine o.description.session × (added ≡ []))
+    ⊎ (HaveNoMessage o.description.session × (¬ HasNoMessage o.description)
+    × ((b : Bundle) × IsMessageOf o.keying number b × IsOneResponse b.initial (m ∷ []) (n ∷ []) added)))
+AddsBack Plain o noise number m n added = added ≡ []
 
 -- and to another medium nothing
-abbrev pub AddsWhereBoth : Side → Sdp → List ℕ → descriptions.Medium → descriptions.Medium → List (List ℕ) → Type 0
-AddsWhereBoth side offer noise m n added = (TakesPartInBoth side m n × AddsBack side offer noise m added) ⊎ ((¬ TakesPartInBoth side m n) × (added ≡ []))
+abbrev pub AddsWhereBoth : Side → Offer → List ℕ → ℕ → descriptions.Medium → descriptions.Medium → List (List ℕ) → Type 0
+AddsWhereBoth side o noise number m n added =
+    (TakesPartInBoth side m n × AddsBack side o noise number m n added) ⊎ ((¬ TakesPartInBoth side m n) × (added ≡ []))
 
 -- each medium in its place, from this number on
-abbrev pub AreAnsweredMedia : Side → Sdp → List ℕ → ℕ → ℕ → List descriptions.Medium → List descriptions.Medium → List descriptions.Medium → Type 0
-AreAnsweredMedia side offer noise slot number [] [] told = told ≡ []
-AreAnsweredMedia side offer noise slot number (m ∷ ms) (n ∷ ns) told =
+abbrev pub AreAnsweredMedia : Side → Offer → List ℕ → ℕ → ℕ → List descriptions.Medium → List descriptions.Medium → List descriptions.Medium → Type 0
+AreAnsweredMedia side o noise slot number [] [] told = told ≡ []
+AreAnsweredMedia side o noise slot number (m ∷ ms) (n ∷ ns) told =
     (first : descriptions.Medium) × (rest : List descriptions.Medium) × (told ≡ first ∷ rest)
-    × ((added : List (List ℕ)) × AddsWhereBoth side offer (noise_for number noise) m n added × IsAnsweredMedium side slot number added m n first)
-    × AreAnsweredMedia side offer noise slot (number + 1) ms ns rest
-AreAnsweredMedia side offer noise slot number ms ns told = ⊥
+    × ((added : List (List ℕ)) × AddsWhereBoth side o noise number m n added × IsAnsweredMedium side slot number added m n first)
+    × AreAnsweredMedia side o noise slot (number + 1) ms ns rest
+AreAnsweredMedia side o noise slot number ms ns told = ⊥
 
 -- ---- the text
 
@@ -110,9 +127,9 @@ pub record IsToldBack (slot : ℕ) (o : Offer) (noise : List ℕ) (answer : Sdp)
   pub told : Sdp
   pub spells : text ≡ spelling told
   pub added : List (List ℕ)
-  pub adds : AddsToAnswer o.side o.description added
+  pub adds : AddsToAnswer o.side o answer added
   pub session : AreCarried answer.session added told.session
-  pub media : AreAnsweredMedia o.side o.description noise slot 0 o.description.media answer.media told.media
+  pub media : AreAnsweredMedia o.side o noise slot 0 o.description.media answer.media told.media
 
 -- so each answer to an open offer that isn't refused
 abbrev pub AnswerIsCarried : Turn → Type 0

@@ -9,6 +9,7 @@ pub mod Heard
 pub mod Manual
 pub mod Offers
 pub mod Others
+pub mod OwnPayloads
 pub mod OwnPorts
 pub mod Place
 pub mod Present
