@@ -43,6 +43,7 @@ pub mod PutOut
 pub mod Reached
 pub mod Refusals
 pub mod Rested
+pub mod SaidByTexts
 pub mod SealsOut
 pub mod Serving
 pub mod Signals

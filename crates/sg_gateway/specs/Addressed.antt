@@ -14,6 +14,7 @@ use Rattle.sg_sdp.specs.declared.sdp.Sdp.{Sdp}
 use Rattle.sg_session.specs.Session.{Session}
 use Rattle.sg_gateway.specs.Refusing.{IsRefused}
 use Rattle.sg_gateway.specs.Runs.{Turn, turns, after_turn}
+use Rattle.sg_gateway.specs.SaidByTexts.{ReadingsAreSaid}
 use Rattle.sg_gateway.specs.Signals.{Offered, Answered}
 use Rattle.sg_gateway.specs.Step.{Event, Signalled}
 use Rattle.sg_gateway.specs.World.{Call, call_of}
@@ -58,5 +59,6 @@ AnswerHasAddresses t =
 abbrev pub OffersAreTheirTexts : List Event → Type 0
 OffersAreTheirTexts events = All OfferIsItsText (turns events)
 
+-- each answer so, and what is read of a text is said by it
 abbrev pub AnswersHaveAddresses : List Event → Type 0
-AnswersHaveAddresses events = All AnswerHasAddresses (turns events)
+AnswersHaveAddresses events = ReadingsAreSaid × All AnswerHasAddresses (turns events)

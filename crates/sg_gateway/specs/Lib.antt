@@ -35,6 +35,7 @@ pub mod PlainTexts
 pub mod Ports
 pub mod Refusing
 pub mod Runs
+pub mod SaidByTexts
 pub mod SealedOut
 pub mod Served
 pub mod Signals

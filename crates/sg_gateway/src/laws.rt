@@ -230,11 +230,14 @@ pub fn messages_are_accepted_once()
 {}
 
 /// The open offer is what its text describes. After its answer each session of the new generation has the addresses of its
-/// medium: the secure side's in the secure side's text, the plain side's in the plain side's.
+/// medium: the secure side's in the secure side's text, the plain side's in the plain side's. What is read of a text is said by
+/// its lines.
 pub fn texts_tell_addresses()
     ensures offers { (events : List Event) → OffersAreTheirTexts events }
     ensures answers { (events : List Event) → AnswersHaveAddresses events }
-{}
+{
+    sg_sdp::descriptions_have_one_value();
+}
 
 /// The offer that an answer closes was made in an earlier turn. Where crypto lines key them, the sessions of the answer's
 /// generation open under lines of the peer's text and seal under lines of the text that was told for the peer. Where MIKEY

@@ -4,6 +4,7 @@ use Rattle.sg_gateway.proofs.Addressed.{AreAddressed, answer_addresses}
 use Rattle.sg_gateway.proofs.Authentic.{offer_once}
 use Rattle.sg_gateway.proofs.Kept.{IsOffered}
 use Rattle.sg_gateway.proofs.Reached.{at_each_turn}
+use Rattle.sg_gateway.proofs.SaidByTexts.{readings_said}
 use Rattle.sg_gateway.specs.Addressed.{OfferIsItsText, AnswerHasAddresses}
 use Rattle.sg_gateway.proofs.laws.texts_tell_addresses.Goals as goal
 
@@ -17,6 +18,8 @@ pub returns-clause-offers : goal.returns-clause-offers
 returns-clause-offers c = at_each_turn OfferIsItsText (λ past w e kept. text_at w e)
 
 pub returns-clause-answers : goal.returns-clause-answers
-returns-clause-answers c =
-    at_each_turn AnswerHasAddresses (λ past w e kept id noise text call d o same is open_one. subst (λ (e : Event). call_of (step w e).world id ≡ Some d → d.generations ≡ call.generations + 1 → AreAddressed o text d) (sym same)
-    (answer_addresses w (each_weaker _ (λ c. IsOffered c.offer) (λ c k. k.offered) w.calls kept.calls) id noise text call o is open_one d))
+returns-clause-answers c events = (
+  readings_said c.descriptions_have_one_value.ensures.takes,
+  at_each_turn AnswerHasAddresses (λ past w e kept id noise text call d o same is open_one. subst (λ (e : Event). call_of (step w e).world id ≡ Some d → d.generations ≡ call.generations + 1 → AreAddressed o text d) (sym same)
+      (answer_addresses w (each_weaker _ (λ c. IsOffered c.offer) (λ c k. k.offered) w.calls kept.calls) id noise text call o is open_one d)) events,
+)
