@@ -24,7 +24,7 @@ use Rattle.sg_gateway.proofs.Signals.{each_and_call, each_with_call, found, is_f
 use Rattle.sg_gateway.proofs.StepCases.{after_pair, after_tick, answer_of, each_datagram, each_signal, manual_call, renewed_by, settled_offer}
 use Rattle.sg_gateway.specs.Lasting.{IsManualIn}
 use Rattle.sg_gateway.specs.Signals.{Answered, Psk, ending, left, rejected, rejected_to}
-use Rattle.sg_conduct.specs.Staying.{HasBegun, HasNames, MarksStay, MomentStays, PairsStay, PskIsHeld, RejectedFirstEnds}
+use Rattle.sg_conduct.specs.Staying.{HasBegun, HasNames, MarksStay, MomentStays, PairsStay, PskIsHeld, RejectedFirstEnds, WasManual}
 use Rattle.sg_conduct.specs.ToldTexts.{AnswerTellsLive, ByeIsTold, IdleIsTold, IsEndOrRefusal, OthersTellEnds, TellsTexts}
 
 -- ---- the moment
@@ -111,12 +111,8 @@ pub unknown : (w : World) (id : CallId) → call_of w id ≡ None → AllByRecur
 unknown w id none = each_weaker (λ c. same_id c.id id ≡ false) (λ c. ¬ c.id ≡ id) (λ c other same. false≢true (sym other ∙ eq-eqb c.id.0 id.0 (ap (λ (i : CallId). i.0) same))) w.calls (not_found (λ c. same_id c.id id) w.calls none)
 
 module _ (w : World) (before : Pairs IsBefore w.calls) (older : AllByRecursion (λ c. c.serial < w.made) w.calls) where
-  -- the call's mark is an earlier one
-  abbrev WasMarked : Call → Type 0
-  WasMarked d = Any (λ c. (c.serial ≡ d.serial) × (c.manual ≡ true)) w.calls
-
   abbrev Marks : Event → Call → Type 0
-  Marks e d = (d.manual ≡ true) ↔ (WasMarked d ⊎ IsManualIn (turn_of w e) d.id)
+  Marks e d = (d.manual ≡ true) ↔ (WasManual (turn_of w e) d ⊎ IsManualIn (turn_of w e) d.id)
 
   module _ (e : Event) where
     -- a call of the same number, id and mark

@@ -36,7 +36,7 @@ use Rattle.sg_conduct.proofs.Alone.{AllBegun, event_begun, has_names, no_names, 
 use Rattle.sg_conduct.proofs.Causes.{after_ok_err, err_is, ok_err, ring_refuses, stop_if_err}
 use Rattle.sg_conduct.proofs.OfferRefusals.{offer_refused}
 use Rattle.sg_conduct.specs.Staying.{HasBegun}
-use Rattle.sg_conduct.specs.Refusals.{AreInOrder, AreOfLine, BarredIsRefused, EndsAreOnce, FitsCall, HasOpenOffer, IsBarred, IsThere, IsUnknown, KeysSpeak, OfferSpeaks, RefusalShowsCause, Speaks}
+use Rattle.sg_conduct.specs.Refusals.{AreInOrder, AreOfLine, BarredIsRefused, EndsAreOnce, FitsCall, HasOpenOffer, IsBarred, IsThere, KeysSpeak, OfferSpeaks, RefusalShowsCause, Speaks}
 
 -- ---- the call of an id
 

@@ -80,13 +80,14 @@ pub record AreByLine (h : ManualCall) (call n : ℕ) (sessions : List Session) :
       → sessions ≡ session_by h call n Opening Rtp ∷ (session_by h call n Opening Rtcp ∷ (session_by h call (n + 1) Sealing Rtp ∷ (session_by h call (n + 1) Sealing Rtcp ∷ [])))
   pub without : ¬ HasControl h → sessions ≡ session_by h call n Opening Rtp ∷ (session_by h call (n + 1) Sealing Rtp ∷ [])
 
--- A call that is keyed manually is made and live, without an open offer, where its id is of no call, fewer than 256 calls are there
--- and its keys can come into use. `MarksStay` says that it is marked, and so refuses each offer (`IsBarred`).
+-- A call that is keyed manually is made and live, without an open offer, where its id is of no call, fewer than 256 calls are
+-- there and its keys can come into use. `MarksStay` says that it is marked, and so refuses each offer (`IsBarred`).
 abbrev pub ManualIsTaken : Turn → Type 0
 ManualIsTaken t =
     (h : ManualCall) → t.event ≡ Signalled (Manual h) → call_of t.before h.id ≡ None → length t.before.calls < 256 → AreFree t.before.books.ring h
     → (t.outcomes ≡ Made h.id (new_call t.before h.id).slot 1 ∷ (Live h.id ∷ []))
-    × ((d : Call) × (call_of (after_turn t) h.id ≡ Some d) × (d.generations ≡ 1) × (d.offer ≡ None) × AreByLine h t.before.made (length t.before.books.ring) d.sessions)
+    × ((d : Call) × (call_of (after_turn t) h.id ≡ Some d) × (d.generations ≡ 1) × (d.offer ≡ None)
+    × AreByLine h t.before.made (length t.before.books.ring) d.sessions)
 
 abbrev pub ManualCallsAreTaken : List Event → Type 0
 ManualCallsAreTaken events = All ManualIsTaken (turns events)

@@ -70,10 +70,13 @@ PskIsHeld t =
     × (((64 ≤ length t.before.books.pairs) × (t.outcomes ≡ Refused None PskFull ∷ []))
     ⊎ ((length t.before.books.pairs < 64) × (t.outcomes ≡ []) × ((after_turn t).books.pairs ≡ t.before.books.pairs ++ p ∷ []))))
 
+-- before the turn the call was keyed manually
+abbrev pub WasManual : Turn → Call → Type 0
+WasManual t d = Any (λ c. (c.serial ≡ d.serial) × (c.manual ≡ true)) t.before.calls
+
 -- the calls that are keyed manually are those that were so before the turn, and the one that is made in it by its line
 abbrev pub MarksStay : Turn → Type 0
-MarksStay t =
-    AllByRecursion (λ d. (d.manual ≡ true) ↔ (Any (λ c. (c.serial ≡ d.serial) × (c.manual ≡ true)) t.before.calls ⊎ IsManualIn t d.id)) (after_turn t).calls
+MarksStay t = AllByRecursion (λ d. (d.manual ≡ true) ↔ (WasManual t d ⊎ IsManualIn t d.id)) (after_turn t).calls
 
 -- a call whose first offer is rejected ends, and is told so
 abbrev pub RejectedFirstEnds : Turn → Type 0

@@ -115,8 +115,8 @@ pub fn refused_answers_show_causes()
     offers_fit_their_calls();
 }
 
-/// A call that is keyed manually is made and live, without an open offer, under the sessions that its line says, where its id is of
-/// no call, fewer than 256 calls are there and its keys are free.
+/// A call that is keyed manually is made and live, without an open offer, under the sessions that its line says, where its id is
+/// of no call, fewer than 256 calls are there and its keys are free.
 pub fn manual_calls_are_taken()
     ensures { (events : List Event) → ManualCallsAreTaken events }
 {

@@ -15,20 +15,12 @@ use Rattle.sg_outcome.specs.declared.outcomes.Why.{Why}
 use Rattle.sg_outcome.specs.declared.outcomes.Outcome.TheVariants.{Made, Sdp, Ended}
 use Rattle.sg_sdp.specs.Reading.{description_of}
 use Rattle.sg_mux.proofs.Lines.{first_of, rest_of}
-use Rattle.sg_mux.proofs.Marks.{line_from, line_to, mark_of, marked, port_from, port_to}
+use Rattle.sg_mux.proofs.Marks.{both_marked, line_from, line_to, mark_of, marked, none_marked, port_from, port_to}
 use Rattle.sg_mux.specs.Latest.{AcceptsAnswer, AcceptsOffer, ChangesSlot, IsAnswered, IsOffered, SharesPort, Telling, TellsText, is_answer}
 use Rattle.sg_mux.specs.Legs.{muxes, same_side}
 use Rattle.sg_mux.specs.Muxed.{agreed, changed_at, fresh}
 use Rattle.sg_mux.specs.Texts.{answers_port, at_places, both, has_media_port, is_such, mark, media_read, no_marks, offers_mux}
 use Rattle.sg_mux.specs.declared.known.Known.{Known}
-
--- ---- marks
-
-none_marked : (medium : ℕ) → mark no_marks medium ≡ true → ⊥
-none_marked medium e = false≢true (marked (λ medium. false) medium e).1
-
-both_marked : (some others : List Bool) (medium : ℕ) → mark (both some others) medium ≡ true → (mark some medium ≡ true) × (mark others medium ≡ true)
-both_marked some others medium e = and_parts _ _ (marked (λ medium. mark some medium && mark others medium) medium e).1
 
 -- ---- what is known of a slot's call after an outcome
 
@@ -54,7 +46,7 @@ pub said_append : (slot : ℕ) (known : Option Known) (ts us : List Telling) →
 said_append slot known [] us = refl
 said_append slot known (t ∷ ts) us = said_append slot (said_of slot t.event t.outcome known) ts us
 
-same : (a b : CallId) → same_id a b ≡ true → a ≡ b
+pub same : (a b : CallId) → same_id a b ≡ true → a ≡ b
 same a b e = ap (λ n. record { 0 = n }) (eqb-true a.0 b.0 e)
 
 side_is : (a b : Side) → same_side a b ≡ true → a ≡ b
@@ -266,7 +258,7 @@ and_each P Q (x ∷ xs) p q = ((p.0, q.0), and_each P Q xs p.1 q.1)
 marked_both : (test : ℕ → Bool) (others : List Bool) (medium : ℕ) → mark (at_places test) medium ≡ true → mark others medium ≡ true → mark (both (at_places test) others) medium ≡ true
 marked_both test others medium e f = mark_of (λ medium. mark (at_places test) medium && mark others medium) medium (marked test medium e).0 (rw (e, f) refl)
 
-its_side : (s : Side) → same_side s s ≡ true
+pub its_side : (s : Side) → same_side s s ≡ true
 its_side Secure = refl
 its_side Plain = refl
 

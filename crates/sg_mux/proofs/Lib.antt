@@ -3,4 +3,5 @@ mod Lines
 pub mod Loops
 mod Marks
 mod Sharings
+mod Told
 mod Vias

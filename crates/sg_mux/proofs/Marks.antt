@@ -1,19 +1,19 @@
 -- What is marked of a text's media is what the text says of them.
-use Rattle.std.proofs.Common.{◌≡◌, ℕ, zero, suc, ◌<◌, Bool, true, not, List, [], ◌∷◌, ◌++◌, length, Option, Some, None, Result, Ok, Err, refl, sym, ap, ◌∙◌, arith}
-use Rattle.std.specs.Prelude.{codes}
-use Rattle.std.specs.List.{slice_get}
+use Rattle.std.proofs.Common.{◌≡◌, ℕ, zero, suc, ◌<◌, Bool, true, false, not, List, [], ◌∷◌, ◌++◌, length, Option, Some, None, Result, Ok, Err, refl, sym, ap, ◌∙◌, arith}
+use Rattle.std.specs.Prelude.{◌&&◌, codes}
+use Rattle.std.specs.List.{Any, slice_get}
 use Rattle.std.specs.Str.{bytes_eq}
-use Rattle.std.proofs.lemmas.Bool.{eq-eqb, false≢true, ne_eqb}
+use Rattle.std.proofs.lemmas.Bool.{and_parts, eq-eqb, false≢true, ne_eqb}
 use Rattle.std.proofs.lemmas.List.Folds.{Any-from_list_any, list_any-from_Any}
 use Rattle.std.proofs.lemmas.Slice.Eq.{bytes_eq-Decides}
-use Rattle.sg_session.proofs.Lists.{any_weaker}
+use Rattle.sg_session.proofs.Lists.{any_here, any_there, any_weaker}
 use Rattle.sg_sdp.specs.Faults.{Fault}
 use Rattle.sg_sdp.specs.Reading.{description_of}
 use Rattle.sg_sdp.specs.declared.medium.Medium.{Medium}
 use Rattle.sg_sdp.specs.declared.sdp.Sdp.{Sdp}
 use Rattle.sg_passages.specs.Passages.{mux_line}
 use Rattle.sg_mux.specs.Shares.{HasMuxLine, HasPort, IsMediumOf}
-use Rattle.sg_mux.specs.Texts.{answers_port, at_places, has_media_port, has_mux_line, is_such, mark, marks_by, media_read, offers_mux}
+use Rattle.sg_mux.specs.Texts.{answers_port, at_places, both, has_media_port, has_mux_line, is_some_marked, is_such, mark, marks_by, media_read, no_marks, offers_mux}
 
 -- ---- a medium of a list
 
@@ -51,6 +51,20 @@ module _ (test : ℕ → Bool) where
   mark_of (suc (suc zero)) few is = is
   mark_of (suc (suc (suc zero))) few is = is
   mark_of (suc (suc (suc (suc n)))) few is = absurd (omega (arith, few))
+
+pub none_marked : (medium : ℕ) → mark no_marks medium ≡ true → ⊥
+none_marked medium e = false≢true (marked (λ medium. false) medium e).1
+
+pub both_marked : (some others : List Bool) (medium : ℕ) → mark (both some others) medium ≡ true → (mark some medium ≡ true) × (mark others medium ≡ true)
+both_marked some others medium e = and_parts _ _ (marked (λ medium. mark some medium && mark others medium) medium e).1
+
+any_marked : (marks : List Bool) (medium : ℕ) → mark marks medium ≡ true → Any (λ m. m ≡ true) marks
+any_marked [] medium is = absurd cc
+any_marked (m ∷ ms) zero is = any_here (λ m. m ≡ true) m ms is
+any_marked (m ∷ ms) (suc n) is = any_there (λ m. m ≡ true) m ms (any_marked ms n is)
+
+pub some_marked : (marks : List Bool) (medium : ℕ) → mark marks medium ≡ true → is_some_marked marks ≡ true
+some_marked marks medium is = list_any-from_Any (λ m. m) marks (any_marked marks medium is)
 
 module _ (test : Medium → Bool) where
   such : (o : Option Medium) → is_such test o ≡ true → (m : Medium) × (o ≡ Some m) × (test m ≡ true)

@@ -166,7 +166,7 @@ module _ (before : List Event) (decided : LegsAreMuxed before) where
 
 -- ---- the next datagram of a run
 
-abbrev world_from : World → List (Option Known) → List Event → World
+abbrev pub world_from : World → List (Option Known) → List Event → World
 world_from w calls [] = w
 world_from w calls (e ∷ es) = world_from (stepped w calls e).world (muxing_after w calls e).calls es
 
@@ -174,7 +174,7 @@ next_event : (w : World) (calls : List (Option Known)) (es : List Event) (e : Ev
 next_event w calls [] e = refl
 next_event w calls (x ∷ es) e = ap (λ (l : List Event). via calls x ∷ l) (next_event (stepped w calls x).world (muxing_after w calls x).calls es e)
 
-next_passage : (w : World) (calls : List (Option Known)) (es : List Event) (e : Event)
+pub next_passage : (w : World) (calls : List (Option Known)) (es : List Event) (e : Event)
     → passages_from w calls (es ++ e ∷ []) ≡ passages_from w calls es ++ passage_at (world_from w calls es) (known_from w calls es) e ∷ []
 next_passage w calls [] e = refl
 next_passage w calls (x ∷ es) e = ap (λ (l : List Passage). passage_at w calls x ∷ l) (next_passage (stepped w calls x).world (muxing_after w calls x).calls es e)

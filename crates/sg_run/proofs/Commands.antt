@@ -20,6 +20,7 @@ use Rattle.sg_mux.specs.Latest.{LegsAreMuxed}
 use Rattle.sg_mux.specs.Via.{events_in as table_events, outcomes_in, passages_in}
 use Rattle.sg_passages.specs.Passages.{Passage}
 use Rattle.sg_playback.proofs.Completes.{untouched as nothing_replayed}
+use Rattle.sg_relay.proofs.Complete.{none_passed, none_relayed}
 use Rattle.sg_relay.proofs.Holds.{nothing_passed}
 use Rattle.sg_relay.specs.Asked.{Act, act_of}
 use Rattle.sg_relay.specs.Joined as joined
@@ -27,6 +28,7 @@ use Rattle.sg_relay.specs.Plain as plain
 use Rattle.sg_relay.specs.Relay.{IsRelay}
 use Rattle.sg_relay.specs.Relay as relays
 use Rattle.sg_relay.specs.Weaving.{Weaves}
+use Rattle.sg_run.proofs.Sends.{joined_sends, plain_sends}
 use Rattle.sg_run.specs.Run.{AreTaken, HasBridged, HasCaptured, HasDone, HasMigrated, HasRelayed, HasRelayedJoined, HasReplayed, HasRun, HasShown, LeavesAlone, LeavesOthersAlone, Lent, Surroundings, PlaysInBatches, of_relay, of_replay}
 use Rattle.sg_words.specs.Commands.{AreWordsOf, IsNoCommand, Words}
 use Rattle.sg_words.specs.declared.command.Command.{Command}
@@ -62,13 +64,15 @@ not_replayed legs muxes old = record {
 }
 
 not_relayed : (legs : (es : List Event) → LegsAreMuxed es) (muxes : Bool) (turns : ℕ) (old : Surroundings) → HasRelayed muxes turns NoMemory old old [] []
-not_relayed legs muxes turns old = record {
-  run = nothing_passed plain.weaves (plain.acts muxes) (plain.world muxes) (ap (map act_of) (no_outcomes muxes)) turns (of_relay old) old.failures;
-  events_are = no_events muxes;
-  passages_are = no_passages muxes;
-  legs = λ before after is. legs before;
-  most = omega arith;
-}
+not_relayed legs muxes turns old =
+    let none : plain.acts muxes [] ≡ [] = ap (map act_of) (no_outcomes muxes) in record {
+      run = nothing_passed plain.weaves (plain.acts muxes) (plain.world muxes) none turns (of_relay old) old.failures;
+      events_are = no_events muxes;
+      passages_are = no_passages muxes;
+      legs = λ before after is. legs before;
+      sends = plain_sends muxes NoMemory turns _ _ none_passed (none_relayed plain.weaves (plain.acts muxes) none (of_relay old) turns);
+      most = omega arith;
+    }
 
 not_relayed_joined : (law : (said : List Said) → BridgeHolds said) (turns : ℕ) (old : Surroundings) → HasRelayedJoined turns NoMemory old old [] []
 not_relayed_joined law turns old = record {
@@ -76,6 +80,7 @@ not_relayed_joined law turns old = record {
   events_are = refl;
   passages_are = refl;
   holds = law [];
+  sends = joined_sends NoMemory turns _ _ none_passed (none_relayed joined.weaves joined.acts refl (of_relay old) turns);
   most = omega arith;
 }
 

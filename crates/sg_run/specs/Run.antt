@@ -1,7 +1,7 @@
 -- What a run did, by the command that its words are.
 use Rattle.std.specs.Prelude.{◌≡◌, ◌⊎◌, ◌≤◌, ◌+◌, ℕ, Bool, List, [], ⊤}
 use Rattle.sg_pairs.specs.BridgeHolds.{BridgeHolds}
-use Rattle.sg_pairs.specs.Bridged.{bridged_events}
+use Rattle.sg_pairs.specs.Bridged.{bridged_events, bridgings}
 use Rattle.sg_bridge.specs.Bridge.{IsBridge, IsCompleteBridge, bridge_trace}
 use Rattle.sg_bridge.specs.Replayed.{IsPlayedAlike, JoinsNone}
 use Rattle.sg_capture.specs.Capturing.{IsCapture, IsCompleteCapture}
@@ -25,8 +25,9 @@ use Rattle.sg_playback.specs.Replay as replays
 use Rattle.sg_relay.specs.Completeness.{Failures, HasPassed}
 use Rattle.sg_relay.specs.Joined as joined
 use Rattle.sg_relay.specs.Plain as plain
-use Rattle.sg_relay.specs.Relay.{woven_of}
+use Rattle.sg_relay.specs.Relay.{deeds_by, woven_of}
 use Rattle.sg_relay.specs.Relay as relays
+use Rattle.sg_run.specs.Sent.{SendsAsTold, put_out_in, put_out_in_bridge}
 use Rattle.sg_words.specs.Commands.{AreWordsOf, Words}
 use Rattle.sg_words.specs.declared.command.Command.{Command}
 use Rattle.sg_words.specs.declared.command.Command.TheVariants.{Replay, Relay, RelayJoined, Demo, Migrate, Capture, Bridge}
@@ -70,13 +71,15 @@ pub record HasReplayed (muxes : Bool) (status : Status) (old new : Surroundings)
   pub complete : NoneOfScriptsFailed old.failures new.failures → IsCompleteReplay status old.left new.left
 
 -- This passed between a relay and the outside; these are its events as they come to the gateway, and what is told of them.
--- Whenever it received it listened at the ports of the calls that were there, and at no others, and it took so many turns at most.
+-- Whenever it received it listened at the ports of the calls that were there, and at no others, and had sent what is told as put
+-- out, and nothing else. It took so many turns at most.
 -- Where nothing fails, sends aside, it handles a script in the grammar that asks for no more turns to the end, or memory runs out.
 pub record HasRelayed (muxes : Bool) (turns : ℕ) (status : Status) (old new : Surroundings) (events : List Event) (passages : List Passage) : Type 0 where
   pub run : HasPassed plain.weaves (plain.acts muxes) (plain.world muxes) status turns (of_relay old) (of_relay new) old.failures new.failures
   pub events_are : events ≡ table_events muxes (woven_of plain.weaves run.passed).deeds
   pub passages_are : passages ≡ passages_in muxes (woven_of plain.weaves run.passed).deeds
   pub legs : LegsAreMuxedThroughout (woven_of plain.weaves run.passed).deeds
+  pub sends : SendsAsTold status run.passed.calls (λ receipts. put_out_in (passages_in muxes (deeds_by plain.weaves run.passed receipts)))
   pub most : new.readings.count ≤ old.readings.count + (turns + 1)
 
 -- This passed between a relay whose calls may be joined and the outside. Its events at the gateway are those of its lines, its ticks
@@ -87,6 +90,7 @@ pub record HasRelayedJoined (turns : ℕ) (status : Status) (old new : Surroundi
   pub events_are : events ≡ bridged_events (woven_of joined.weaves run.passed).deeds
   pub passages_are : passages ≡ plain_passages events
   pub holds : BridgeHolds (woven_of joined.weaves run.passed).deeds
+  pub sends : SendsAsTold status run.passed.calls (λ receipts. put_out_in_bridge (bridgings (deeds_by joined.weaves run.passed receipts)))
   pub most : new.readings.count ≤ old.readings.count + (turns + 1)
 
 -- with Done these are all of the demonstration's events, and else the first of them

@@ -1,11 +1,10 @@
 //! The top call.
 
-ghost use Rattle.std.specs.Prelude.{◌≡◌, ◌⊎◌, ◌≤◌, ◌+◌, ◌^◌, ℕ, List, Option, length, map, string_bytes, None};
+ghost use Rattle.std.specs.Prelude.{◌≡◌, ◌⊎◌, ◌≤◌, ◌+◌, ◌^◌, ℕ, List, length, map, string_bytes, None};
 ghost use Rattle.sg_audit.specs.Pages.{AuditorsPages};
 ghost use Rattle.sg_audit.specs.Seen.{seen_of};
 ghost use Rattle.sg_base.specs.declared.addresses.Address.{Address};
 ghost use Rattle.sg_base.specs.declared.addresses.CallId.{CallId};
-ghost use Rattle.sg_base.specs.declared.addresses.Side.{Side};
 ghost use Rattle.sg_trace.specs.CaptureHolds.{CaptureHolds};
 ghost use Rattle.sg_trace.specs.Causes.{EndedBy, HasFailed};
 ghost use Rattle.sg_trace.specs.Loop.{IsWant};
@@ -17,7 +16,6 @@ ghost use Rattle.sg_migrate.specs.Migrated.{IsOfVersionOne, migrated};
 ghost use Rattle.sg_migrate.specs.VersionTwo.{IsVersionTwo, TicksFirst};
 ghost use Rattle.sg_mux.specs.Lined.{IsToldWithLines};
 ghost use Rattle.sg_mux.specs.Sharing.{SharesAsTold};
-ghost use Rattle.sg_mux.specs.declared.known.Known.{Known};
 ghost use Rattle.sg_passages.specs.Headline.{Headline};
 ghost use Rattle.sg_passages.specs.Passages.{Passage};
 ghost use Rattle.sg_run.specs.Run.{HasRun, LeavesOthersAlone, PlaysInBatches};
@@ -101,7 +99,7 @@ pub fn run<R: Threads + Sync, S: Source, K: Sink, L: Link, C: Clock, N: Noise, G
     ensures migrated_two { (octets : List ℕ) → IsVersionTwo octets }
     ensures captures { (octets draws : List ℕ) → CaptureHolds octets draws }
     ensures shares { (before : List Event) (port : ℕ) (from : Address) (octets : Octets) → SharesAsTold before port from octets }
-    ensures texts { (calls : List (Option Known)) (id : CallId) (side : Side) (text : List ℕ) → IsToldWithLines calls id side text }
+    ensures texts { (before : List Event) (id : CallId) (noise answer : List ℕ) → IsToldWithLines before id noise answer }
     ensures datagrams_tick { (moment port : ℕ) (from : Address) (octets : List ℕ) → TicksFirst moment port from octets }
     ensures read { EndedBy (result ≡ Status.Read) (PlaysInBatches (map string_bytes words.now) × IsWant result) (S.faults source.old) (S.faults source.new) (S.failed source.new) }
     ensures write { HasFailed (result ≡ Status.Write) (K.faults sink.old) (K.faults sink.new) (K.failed sink.new) }

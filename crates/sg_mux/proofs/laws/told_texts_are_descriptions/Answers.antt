@@ -1,4 +1,4 @@
-use Rattle.sg_mux.proofs.Lines.{told_with_lines}
+use Rattle.sg_mux.proofs.Told.{told_with_lines}
 use Rattle.sg_mux.proofs.laws.told_texts_are_descriptions.Goals as goal
 
 pub returns : goal.returns
