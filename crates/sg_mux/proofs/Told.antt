@@ -1,5 +1,5 @@
 -- The text of an answer is told with the line in each medium whose leg shares its port, and in no other.
-use Rattle.std.proofs.Common.{◌≡◌, ◌⊎◌, ◌↔◌, inl, inr, ℕ, zero, suc, ◌<◌, ◌≤◌, Bool, true, false, cond, List, [], ◌∷◌, ◌++◌, length, Option, Some, None, Result, Ok, Err, refl, sym, ap, ◌∙◌, subst, arith, ltb}
+use Rattle.std.proofs.Common.{◌≡◌, ◌↔◌, inl, inr, ℕ, zero, suc, ◌≤◌, Bool, true, false, cond, List, [], ◌∷◌, ◌++◌, length, Option, Some, None, Result, Ok, Err, refl, sym, ap, ◌∙◌, subst, arith, ltb}
 use Rattle.std.proofs.lemmas.Bool.{and_from, and_parts, eq-eqb, false≢true, ltb-false}
 use Rattle.std.specs.List.{AllByRecursion}
 use Rattle.std.specs.Prelude.{◌&&◌, slice_index_or}
@@ -23,7 +23,7 @@ use Rattle.sg_mux.proofs.Marks.{both_marked, marked, none_marked, port_from, som
 use Rattle.sg_mux.proofs.Sharings.{next_passage, world_from}
 use Rattle.sg_mux.specs.Latest.{known_after, known_from}
 use Rattle.sg_mux.specs.Legs.{is_muxed, muxes, same_side}
-use Rattle.sg_mux.specs.Lined.{GetLines, GetsLine, IsLined, IsToldBy, IsToldWithLines, LegShares}
+use Rattle.sg_mux.specs.Lined.{GetLines, GetsLine, IsToldBy, IsToldWithLines, LegShares}
 use Rattle.sg_mux.specs.Muxed.{agreed, nobody, offered_by, signalled, with_change}
 use Rattle.sg_mux.specs.Texts.{answers_port, is_some_marked, mark, no_marks, spelled_with, with_lines, with_mux_lines}
 use Rattle.sg_mux.specs.Via.{muxing_after, passage_at, stepped}

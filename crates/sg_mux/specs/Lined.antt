@@ -1,4 +1,4 @@
--- The text of an answer, as it is told: each medium whose leg shares its port has the line of RFC 5761, 5.1.1, and no other gets it.
+-- The text of an answer, as it is told: each medium whose leg shares its port gets the line of RFC 5761, 5.1.1, and no other.
 use Rattle.std.specs.Prelude.{◌≡◌, ◌⊎◌, ℕ, suc, true, List, [], ◌∷◌, ◌++◌, length, codes, Option, Some, Ok}
 use Rattle.std.specs.List.{AllByRecursion}
 use Rattle.sg_base.specs.declared.addresses.CallId.{CallId}
