@@ -417,6 +417,30 @@ fn other_addresses_are_free(rt: HostRuntime) {
     is_free_elsewhere(&rt, &mut link);
 }
 
+/// A far end at another address of the loopback: a datagram from there is told as of there, and one to there arrives.
+fn knows_hosts<L: Link>(rt: &(impl Abort + Net), link: &mut L, pad: &mut Pad) {
+    let near = bind_one(rt, link);
+    let any = SocketAddr::V4(SocketAddrV4::new(Ipv4Addr::new(127, 0, 0, 2), 0));
+    let socket = UdpSocket::bind(rt, any).expect(rt, "a socket");
+    let port = socket.local_addr().expect(rt, "its address").port();
+    let ip = [127, 0, 0, 2];
+    let far = Address { ip, port };
+    let to = SocketAddr::V4(SocketAddrV4::new(Ipv4Addr::new(127, 0, 0, 1), near.port));
+    assert!(rt; socket.send_to(b"there", to).expect(rt, "sent") == 5);
+    assert!(rt; next_receipt(link, pad) == got(near.port, far));
+    assert!(rt; link.send(near.port, far, b"back") == Ok(()));
+    socket.set_nonblocking(true).expect(rt, "no waiting");
+    let mut part = [0; 8];
+    assert!(rt; socket.recv(&mut part).expect(rt, "a datagram") == 4);
+}
+
+#[test]
+fn hosts_of_the_system(rt: HostRuntime) {
+    let mut pad = Pad::make(rt.alloc()).expect(&rt, "memory");
+    let mut link = UdpLink::make(rt.alloc(), &rt);
+    knows_hosts(&rt, &mut link, &mut pad);
+}
+
 /// The port of the next datagram; 0 where none came.
 fn next_port<L: Link>(link: &mut L, pad: &mut Pad) -> u16 {
     match next_receipt(link, pad) {

@@ -48,7 +48,7 @@ impl Table {
         self.handle(rt, arrivals, workers, gate);
     }
 
-    /// One arrival is handled alone, so that no call without one is looked at.
+    /// One arrival is handled alone, so that no call without one is looked at, and none at all where none came.
     fn handle<R: Threads + Sync, G: Gate + Sync>(
         &mut self,
         rt: &R,
@@ -62,7 +62,7 @@ impl Table {
         ensures { (w : World) → TableStandsFor self.old w → IsBatched w arrivals.old arrivals.new self.new }
     {
         calls_in_order();
-        if arrivals.len() == 1 {
+        if arrivals.len() <= 1 {
             self.in_turn(arrivals);
             return;
         }
