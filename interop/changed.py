@@ -44,7 +44,7 @@ def texts_after(edit, tree):
 
 
 def told_by(crates, row, kind):
-    """The lines that a script of the rows, with its capture behind it, tells by the definitions of these crates, played as its words say, or by a relay."""
+    """The lines that a row's script, with its capture behind it, tells by these crates' definitions, played as its words say, or by a relay."""
     words = row.with_suffix(".words")
     played = words.read_text().strip() if words.is_file() else "replay"
     capture = row.with_suffix(".pcap")
