@@ -28,6 +28,9 @@ use Rattle.sg_relay.specs.Plain as plain
 use Rattle.sg_relay.specs.Relay.{IsRelay}
 use Rattle.sg_relay.specs.Relay as relays
 use Rattle.sg_relay.specs.Weaving.{Weaves}
+use Rattle.sg_run.proofs.Captures.{captures_begin}
+use Rattle.sg_run.proofs.Damage.{damage_is_told}
+use Rattle.sg_run.proofs.Heard.{bridges_hear, relays_hear, relays_hear_as_bridges}
 use Rattle.sg_run.proofs.Sends.{joined_sends, plain_sends}
 use Rattle.sg_run.specs.Run.{AreTaken, HasBridged, HasCaptured, HasDone, HasMigrated, HasRelayed, HasRelayedJoined, HasReplayed, HasRun, HasShown, LeavesAlone, LeavesOthersAlone, Lent, Surroundings, PlaysInBatches, of_relay, of_replay}
 use Rattle.sg_words.specs.Commands.{AreWordsOf, IsNoCommand, Words}
@@ -80,6 +83,8 @@ not_relayed_joined law turns old = record {
   events_are = refl;
   passages_are = refl;
   holds = law [];
+  heard = relays_hear;
+  alike = relays_hear_as_bridges;
   sends = joined_sends NoMemory turns _ _ none_passed (none_relayed joined.weaves joined.acts refl (of_relay old) turns);
   most = omega arith;
 }
@@ -110,6 +115,8 @@ not_captured old = record {
   is = nothing_captured (of_replay old);
   events_are = refl;
   passages_are = refl;
+  begins = captures_begin;
+  damage = damage_is_told [] [];
   complete = λ none all rest left left' script. inr refl;
 }
 
@@ -122,6 +129,7 @@ not_bridged law old = record {
   events_are = refl;
   passages_are = refl;
   holds = law [];
+  heard = bridges_hear;
   alike = λ none. record { said = refl; stop = refl; left = refl; events = refl; told = refl; text = refl };
   complete = λ none all rest left left' script. inr refl;
 }

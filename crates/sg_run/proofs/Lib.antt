@@ -1,2 +1,6 @@
+mod Captures
 mod Commands
+mod Damage
+mod Heard
+mod Lines
 mod Sends

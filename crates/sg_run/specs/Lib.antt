@@ -1,2 +1,4 @@
+pub mod Captures
+pub mod Heard
 pub mod Run
 pub mod Sent

@@ -27,6 +27,8 @@ use Rattle.sg_relay.specs.Joined as joined
 use Rattle.sg_relay.specs.Plain as plain
 use Rattle.sg_relay.specs.Relay.{deeds_by, woven_of}
 use Rattle.sg_relay.specs.Relay as relays
+use Rattle.sg_run.specs.Captures.{CapturesBegin, DamageIsTold}
+use Rattle.sg_run.specs.Heard.{IsHeard, IsHeardByRelay, LinesAreHeard, RelaysHearAsBridges}
 use Rattle.sg_run.specs.Sent.{SendsAsTold, put_out_in, put_out_in_bridge}
 use Rattle.sg_words.specs.Commands.{AreWordsOf, Words}
 use Rattle.sg_words.specs.declared.command.Command.{Command}
@@ -84,12 +86,15 @@ pub record HasRelayed (muxes : Bool) (turns : ℕ) (status : Status) (old new : 
 
 -- This passed between a relay whose calls may be joined and the outside. Its events at the gateway are those of its lines, its ticks
 -- and the datagrams that came, each inner one right behind the one that opened it, with what the gateway tells of them. What a
--- bridge holds of joined calls is so of them, and all that a relay promises besides.
+-- bridge holds of joined calls is so of them, and all that a relay promises besides. A line that joins or parts says that, wherever
+-- it stands, and other lines give what they give a bridge.
 pub record HasRelayedJoined (turns : ℕ) (status : Status) (old new : Surroundings) (events : List Event) (passages : List Passage) : Type 0 where
   pub run : HasPassed joined.weaves joined.acts joined.world status turns (of_relay old) (of_relay new) old.failures new.failures
   pub events_are : events ≡ bridged_events (woven_of joined.weaves run.passed).deeds
   pub passages_are : passages ≡ plain_passages events
   pub holds : BridgeHolds (woven_of joined.weaves run.passed).deeds
+  pub heard : LinesAreHeard IsHeardByRelay
+  pub alike : RelaysHearAsBridges
   pub sends : SendsAsTold status run.passed.calls (λ receipts. put_out_in_bridge (bridgings (deeds_by joined.weaves run.passed receipts)))
   pub most : new.readings.count ≤ old.readings.count + (turns + 1)
 
@@ -117,7 +122,8 @@ pub record HasMigrated (status : Status) (old new : Surroundings) (events : List
   pub complete : ¬ Rose old.failures.source new.failures.source → ¬ Rose old.failures.sink new.failures.sink
       → migrations.IsCompleteMigration status old.left new.left
 
--- A script and the capture behind it were read, drew and wrote these octets; these are their events, told as they are. Where
+-- A script and the capture behind it were read, drew and wrote these octets; these are their events, told as they are. A capture
+-- begins behind a line `capture`, and what is met of one that is cut off or damaged is what stands before, and its fault. Where
 -- nothing fails, and they have no fault, they are played to the end, or memory runs out.
 pub record HasCaptured (status : Status) (old new : Surroundings) (events : List Event) (passages : List Passage) : Type 0 where
   pub octets : List ℕ
@@ -126,12 +132,14 @@ pub record HasCaptured (status : Status) (old new : Surroundings) (events : List
   pub is : IsCapture status (of_replay old) (of_replay new) octets draws out
   pub events_are : events ≡ captured_events (captured octets draws).occurrences
   pub passages_are : passages ≡ plain_passages events
+  pub begins : CapturesBegin
+  pub damage : DamageIsTold octets draws
   pub complete : NoneOfScriptsFailed old.failures new.failures → IsCompleteCapture status old.left new.left
 
 -- A bridge read, drew and wrote these octets, and these are its events at the gateway, each inner one too, with what the
 -- gateway tells of them; what is written is told by the definitions of bridges. What a bridge holds of joined calls is so of
--- its lines, and where no line joins or parts it is played as a replay. Where nothing fails, and no line is outside the grammar, it
--- is played to the end, or memory runs out.
+-- its lines, and where no line joins or parts it is played as a replay. A line that joins or parts says that, wherever it stands.
+-- Where nothing fails, and no line is outside the grammar, it is played to the end, or memory runs out.
 pub record HasBridged (status : Status) (old new : Surroundings) (events : List Event) (passages : List Passage) : Type 0 where
   pub octets : List ℕ
   pub draws : List ℕ
@@ -140,6 +148,7 @@ pub record HasBridged (status : Status) (old new : Surroundings) (events : List 
   pub events_are : events ≡ bridged_events (bridge_trace octets draws).deeds
   pub passages_are : passages ≡ plain_passages events
   pub holds : BridgeHolds (bridge_trace octets draws).deeds
+  pub heard : LinesAreHeard IsHeard
   pub alike : JoinsNone octets → IsPlayedAlike octets draws
   pub complete : NoneOfScriptsFailed old.failures new.failures → IsCompleteBridge status old.left new.left
 
