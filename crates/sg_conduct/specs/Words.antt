@@ -1,16 +1,33 @@
--- What words mean in which all else is said: octets, the same name, and the tag and the key of a suite.
-use Rattle.std.specs.Prelude.{◌≡◌, ◌⊎◌, ◌↔◌, ◌<◌, ℕ, ◌*◌, Bool, true, false, List, ◌++◌, codes}
-use Rattle.std.specs.List.{AllByRecursion}
+-- What words mean in which all else is said: octets, the same name, the call of an id, and the tag and the key of a suite.
+use Rattle.std.specs.Prelude.{◌≡◌, ◌⊎◌, ◌↔◌, ◌<◌, ℕ, ◌*◌, Bool, true, false, List, [], ◌∷◌, ◌++◌, codes, Some, None}
+use Rattle.std.specs.List.{AllByRecursion, Any}
 use Rattle.sg_base.specs.SuiteNames.{suite_name}
 use Rattle.sg_base.specs.Suites.{is_raw, key_len_of, salt_len_of, tag_len_of}
+use Rattle.sg_base.specs.declared.addresses.Address.{Address}
+use Rattle.sg_base.specs.declared.addresses.CallId.{CallId}
 use Rattle.sg_base.specs.declared.suites.Suite.{Suite}
-use Rattle.sg_gateway.specs.Octets.{as_octets}
+use Rattle.sg_gateway.specs.Events.{events_of}
+use Rattle.sg_gateway.specs.Octets.{Octets, as_octets}
+use Rattle.sg_gateway.specs.Step.{Datagram}
+use Rattle.sg_gateway.specs.World.{Call, World, call_of}
+use Rattle.sg_lines.specs.declared.lines.Line.TheVariants as lines
 use Rattle.sg_session.specs.Session.{same_name}
 use Rattle.sg_session.specs.declared.names.Name.{Name}
 
 -- numbers below 256 stay, as octets, what and as many as they are
 abbrev pub OctetsAreWhole : Type 0
 OctetsAreWhole = (numbers : List ℕ) → AllByRecursion (λ x. x < 256) numbers → (as_octets numbers).items ≡ numbers
+
+-- a datagram's line gives that datagram alone, with all of its octets
+abbrev pub DatagramsAreWhole : Type 0
+DatagramsAreWhole =
+    (port : ℕ) (from : Address) (octets : List ℕ) → AllByRecursion (λ x. x < 256) octets
+    → (d : Octets) × (d.items ≡ octets) × (events_of (lines.Datagram port from octets) ≡ Datagram port from d ∷ [])
+
+-- the call of an id is there and has the id; and where there is none, no call has it
+abbrev pub CallsAreFound : Type 0
+CallsAreFound =
+    (w : World) (id : CallId) → ((c : Call) → call_of w id ≡ Some c → (c.id ≡ id) × Any (λ x. x ≡ c) w.calls) × (call_of w id ≡ None → AllByRecursion (λ c. ¬ c.id ≡ id) w.calls)
 
 -- a session's name is the same as another where the two are equal, and only there
 abbrev pub NamesAreTheSame : Type 0
@@ -34,6 +51,8 @@ KeyIsAsNamed suite =
 
 pub record WordsMean : Type 0 where
   pub octets : OctetsAreWhole
+  pub datagrams : DatagramsAreWhole
+  pub calls : CallsAreFound
   pub names : NamesAreTheSame
   pub tags : (suite : Suite) → TagIsAsNamed suite
   pub keys : (suite : Suite) → KeyIsAsNamed suite
