@@ -1,5 +1,5 @@
 -- What a call keeps by a rejection, a tick and a packet, and that a new one is in the lowest free slot.
-use Rattle.std.proofs.Common.{◌≡◌, inl, inr, ℕ, ◌+◌, ◌<◌, ◌≤◌, Bool, true, false, cond, not, List, [], ◌∷◌, map, Some, None, Ok, Err, refl, sym, ap, ◌∙◌, subst, arith, eqb, ltb}
+use Rattle.std.proofs.Common.{◌≡◌, ◌⊎◌, inl, inr, ℕ, ◌+◌, ◌<◌, ◌≤◌, Bool, true, false, cond, not, ◌||◌, List, [], ◌∷◌, map, Some, None, Ok, Err, refl, sym, ap, ◌∙◌, subst, arith, eqb, ltb}
 use Rattle.std.proofs.lemmas.Bool.{eqb-false, eqb-true, ne_eqb}
 use Rattle.std.specs.List.{AllByRecursion, Any}
 use Rattle.std.specs.Option.{is_some}
@@ -9,14 +9,22 @@ use Rattle.sg_outcome.specs.declared.outcomes.Outcome.TheVariants.{Dropped, Live
 use Rattle.sg_outcome.specs.declared.outcomes.Why.TheVariants as why
 use Rattle.sg_session.proofs.Lists.{each_at}
 use Rattle.sg_gateway.proofs.Common.{Answer, Call, CallId, Datagram, Event, Offer, Reject, Signal, Signalled, World, and_call, answer_to, any_cases}
+use Rattle.sg_gateway.proofs.Common.{IsBefore, at_hand, each_at_this, each_weaker, turns, with_call}
 use Rattle.sg_gateway.proofs.Common.{any_here, any_there, any_weaker, both, call_after, call_at_tick, call_of, drops_earlier, each_filter, each_map, each_of}
 use Rattle.sg_gateway.proofs.Common.{filter, free_slot, given_to, has_port, is_idle, manual_medium, new_call, other_side, put, refused, side_of, step, tells_ended, turn_of, without_earlier}
+use Rattle.sg_gateway.proofs.Agreements.{Agreements}
 use Rattle.sg_gateway.proofs.CarriedOut.{found_with, id_found}
+use Rattle.sg_gateway.proofs.Datagrams.{every_world}
 use Rattle.sg_gateway.proofs.Lists.{all_any, each_of_list}
-use Rattle.sg_gateway.proofs.Signals.{each_with_call, is_found}
+use Rattle.sg_gateway.proofs.Pairs.{Pairs}
+use Rattle.sg_gateway.proofs.Reached.{Anything, anything_had, anything_on}
+use Rattle.sg_gateway.proofs.Signals.{each_and_call, each_with_call, found, is_found}
 use Rattle.sg_gateway.proofs.StepCases.{after_rejection, after_tick, each_datagram, each_signal, manual_call, renewed_by, settled_offer}
+use Rattle.sg_gateway.specs.CallSignals.{media_of}
 use Rattle.sg_gateway.specs.Signals.{rejected, rejected_to}
-use Rattle.sg_conduct.specs.Keeping.{DatagramKeepsPlaces, LaterRejectionStays, MadeIsInLowest, TickKeepsPlaces}
+use Rattle.sg_conduct.proofs.Alone.{AllBegun, event_begun, unknown}
+use Rattle.sg_conduct.specs.Keeping.{DatagramKeepsPlaces, LaterRejectionStays, MadeIsInLowest, PlacesStay, TickKeepsPlaces}
+use Rattle.sg_conduct.specs.Staying.{HasBegun}
 
 -- ---- a rejected later offer
 
@@ -146,3 +154,78 @@ module _ (w : World) where
         drops = λ cause. each_heard;
         puts = λ c at s t sent held. each_with_call WasHeard (call_after w.moment c s t) w.calls (was_heard c (call_after w.moment c s t) (is_found (has_port port) w.calls c at) refl) each_heard;
       }) from octets.items)
+
+-- ---- whatever comes
+
+-- the call of an id is one
+one_id : (c : Call) (cs : List Call) → Pairs IsBefore cs → Any (λ x. x ≡ c) cs → AllByRecursion (λ x. x.id ≡ c.id → x ≡ c) cs
+one_id c [] p a = tt
+one_id c (x ∷ xs) p a = go (λ rest. one_id c xs p.1 rest) (any_cases (λ x. x ≡ c) x xs a)
+  where
+    go : (Any (λ x. x ≡ c) xs → AllByRecursion (λ x. x.id ≡ c.id → x ≡ c) xs) → (x ≡ c) ⊎ Any (λ x. x ≡ c) xs → AllByRecursion (λ x. x.id ≡ c.id → x ≡ c) (x ∷ xs)
+    go more (inl same) = ((λ e. same), each_weaker _ _ (λ y before e. absurd (before.id (ap (λ (c : Call). c.id) same ∙ sym e))) xs p.0)
+    go more (inr rest) = ((λ e. absurd ((each_at_this (IsBefore x) xs c p.0 rest).id e)), more rest)
+
+always : (b : Bool) → (b || true) ≡ true
+always true = refl
+always false = refl
+
+-- a call that has begun has a number of media
+media_is : (c : Call) → HasBegun c → media_of c ≡ Some c.media
+media_is c begun = ap (λ b. cond b (Some c.media) None) (go (eqb c.generations 0) refl)
+  where
+    go : (b : Bool) → eqb c.generations 0 ≡ b → (is_some c.offer || not b) ≡ true
+    go true none = ap (λ o. is_some o || false) (begun (eqb-true c.generations 0 none)).1
+    go false more = always (is_some c.offer)
+
+module _ (laws : Agreements) (w : World) (before : Pairs IsBefore w.calls) (begun : AllBegun w) (c : Call) (here : Any (λ x. x ≡ c) w.calls) where
+  abbrev StaysIn : Call → Type 0
+  StaysIn d = d.id ≡ c.id → (d.serial ≡ c.serial) × (d.slot ≡ c.slot) × (d.media ≡ c.media)
+
+  goes_on : (x d : Call) → Any (λ y. y ≡ x) w.calls → d.id ≡ x.id → d.serial ≡ x.serial → d.slot ≡ x.slot → d.media ≡ x.media → StaysIn d
+  goes_on x d there id serial slot media same =
+      let one : x ≡ c = each_at_this (λ x. x.id ≡ c.id → x ≡ c) w.calls x (one_id c w.calls before here) there (sym id ∙ same) in
+      (serial ∙ ap (λ (x : Call). x.serial) one, slot ∙ ap (λ (x : Call). x.slot) one, media ∙ ap (λ (x : Call). x.media) one)
+
+  all_in : AllByRecursion StaysIn w.calls
+  all_in = each_of_list StaysIn w.calls (λ x there. goes_on x x there refl refl refl refl)
+
+  new_in : (id : CallId) (d : Call) → call_of w id ≡ None → d.id ≡ id → StaysIn d
+  new_in id d none own same = absurd (each_at_this (λ x. ¬ x.id ≡ id) w.calls c (unknown w id none) here (sym same ∙ own))
+
+  put_in : (x d : Call) → Any (λ y. y ≡ x) w.calls → d.id ≡ x.id → d.serial ≡ x.serial → d.slot ≡ x.slot → d.media ≡ x.media → AllByRecursion StaysIn (with_call d w.calls)
+  put_in x d there id serial slot media = each_with_call StaysIn d w.calls (goes_on x d there id serial slot media) all_in
+
+  gone_in : (x : Call) → AllByRecursion StaysIn (filter (λ y. not (eqb y.serial x.serial)) w.calls)
+  gone_in x = each_filter StaysIn (λ y. not (eqb y.serial x.serial)) w.calls all_in
+
+  signal_in : (signal : Signal) → AllByRecursion StaysIn (answer_to w signal).world.calls
+  signal_in = each_signal w (λ signal a. AllByRecursion StaysIn a.world.calls) (record {
+    refuses = λ signal id cause. all_in;
+    ticks = λ now on. each_map StaysIn StaysIn (call_at_tick now) (λ x is. both StaysIn (drops_earlier now x) (without_earlier x) x is is)
+        (filter (λ x. not (is_idle now x)) w.calls) (each_filter StaysIn (λ x. not (is_idle now x)) w.calls all_in);
+    pairs = λ p. all_in;
+    keys = λ h none room ring is. each_and_call StaysIn _ w.calls (new_in h.id (renewed_by w.moment w.books (manual_call w h) [] (Some (manual_medium h) ∷ []) ring).call none refl) all_in;
+    begins = λ id way noise text none room a agreed. each_and_call StaysIn _ w.calls (new_in id (settled_offer w.moment w.books (new_call w id) a).call none refl) all_in;
+    offers = λ id way noise text x at a agreed. put_in x (settled_offer w.moment w.books x a).call (is_found _ w.calls x at) refl refl refl
+        (laws.count (at_hand w.moment w.books x noise) way text a x.media agreed (media_is x (found HasBegun _ w.calls x at begun)));
+    answers = λ id noise text x at o is_open g agreed ring is. put_in x (renewed_by w.moment w.books x g.text g.media ring).call (is_found _ w.calls x at) refl refl refl refl;
+    rejects = λ id x at none. gone_in x;
+    closes = λ id x at. put_in x (record x { offer = None; moment = w.moment }) (is_found _ w.calls x at) refl refl refl refl;
+    leaves = λ id x at. gone_in x;
+  })
+
+  event_in : (e : Event) → AllByRecursion StaysIn (step w e).world.calls
+  event_in (Signalled signal) = signal_in signal
+  event_in (Datagram port from d) = each_datagram w port (λ h. AllByRecursion StaysIn h.world.calls) (record {
+    drops = λ cause. all_in;
+    puts = λ x at s t octets held. put_in x (call_after w.moment x s t) (is_found (has_port port) w.calls x at) refl refl refl refl;
+  }) from d.items
+
+pub places_stay : Agreements → (w : World) → Pairs IsBefore w.calls → AllBegun w → (e : Event) → PlacesStay (turn_of w e)
+places_stay laws w before begun e =
+    each_of_list (λ c. AllByRecursion (λ d. d.id ≡ c.id → (d.serial ≡ c.serial) × (d.slot ≡ c.slot) × (d.media ≡ c.media)) (step w e).world.calls) w.calls (λ c here. event_in laws w before begun c here e)
+
+-- the calls before each event have begun
+pub begun_worlds : (es : List Event) → AllByRecursion (λ t. AllBegun t.before) (turns es)
+begun_worlds es = (every_world Anything anything_on anything_had (λ w e. Unit {0}) AllBegun (λ past w e kept u b. event_begun w b e) es (each_of (λ t. Unit {0}) (λ t. tt) (turns es)) tt).0

@@ -1,4 +1,4 @@
--- What a call keeps by a rejection, a tick and a packet, and which slot a new one gets.
+-- What a call keeps by whatever comes, and by a rejection, a tick and a packet alone; and which slot a new one gets.
 use Rattle.std.specs.Prelude.{◌≡◌, ◌<◌, ℕ, List, [], Some, None}
 use Rattle.std.specs.List.{All, AllByRecursion, Any}
 use Rattle.sg_agreement.specs.Keying.{Offer}
@@ -10,6 +10,11 @@ use Rattle.sg_gateway.specs.Runs.{Turn, after_turn, turns}
 use Rattle.sg_gateway.specs.Signals.{Tick, Reject}
 use Rattle.sg_gateway.specs.Step.{Event, Datagram, Signalled}
 use Rattle.sg_gateway.specs.World.{Call, call_of}
+
+-- a call that is still there has its number, its slot and its media, whatever came
+abbrev pub PlacesStay : Turn → Type 0
+PlacesStay t =
+    AllByRecursion (λ c. AllByRecursion (λ d. d.id ≡ c.id → (d.serial ≡ c.serial) × (d.slot ≡ c.slot) × (d.media ≡ c.media)) (after_turn t).calls) t.before.calls
 
 -- A call that has had a generation goes on as it was where an offer of its is rejected (RFC 3264, 8): but without that offer, and as
 -- last heard at this moment; and nothing is told.
@@ -36,6 +41,7 @@ DatagramKeepsPlaces t =
     → AllByRecursion (λ d. Any (λ c. d ≡ record c { sessions = d.sessions; moment = d.moment }) t.before.calls) (after_turn t).calls
 
 pub record CallsKeepPlaces (events : List Event) : Type 0 where
+  pub stay : All PlacesStay (turns events)
   pub rejected : All LaterRejectionStays (turns events)
   pub made : All MadeIsInLowest (turns events)
   pub ticked : All TickKeepsPlaces (turns events)

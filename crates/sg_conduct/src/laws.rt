@@ -188,11 +188,16 @@ pub fn refusals_show_causes()
     offers_fit_their_calls();
 }
 
-/// A call that has had a generation goes on as it was where a later offer of its is rejected. A new call gets the lowest free slot,
-/// and is there as it is told. And a tick and a datagram leave each call its id, its slot, its media, its offer and its generations.
+/// A call that is still there has its slot and its media, whatever came. One that has had a generation goes on as it was where a
+/// later offer of its is rejected. A new call gets the lowest free slot, and is there as it is told. And a tick and a datagram leave
+/// each call its offer and its generations too.
 pub fn calls_keep_their_places()
     ensures { (events : List Event) → CallsKeepPlaces events }
-{}
+{
+    agreements_are_sound();
+    active_media_are_agreed();
+    offers_fit_their_calls();
+}
 
 /// Octets are taken whole, names of sessions are the same where they are equal alone, and a suite has the tag and the key that its
 /// name says.
