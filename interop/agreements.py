@@ -417,6 +417,9 @@ def no_medium_is_left():
     s.says(answer(7, reply), sdp(7, "secure", told), "live 7")
     for port in (20000, 20002, 20004, 20008):
         s.dropped(port, b"", "PortUnused")
+    # it goes on where its next offer is rejected
+    s.says(offer_secure(7, offer), sdp(7, "plain", carried))
+    s.says("reject 7")
     s.says(offer_secure(7, offer), sdp(7, "plain", carried))
     kept = BOB + ["m=audio 41000 RTP/AVP 0", "m=audio 0 RTP/AVP 0", "m=application 0 y/z x"]
     told = BOB + ["m=audio 20000 RTP/SAVP 0", crypto(1, OWN), "m=audio 0 RTP/SAVP 0", "m=application 0 y/z x"]

@@ -10,6 +10,7 @@ mod FirstLines
 mod Firsts
 mod Forth
 pub mod Heard
+mod Keeping
 mod Latest
 mod Manual
 mod Notes
@@ -29,7 +30,9 @@ mod Served
 mod Serving
 mod Settling
 mod Shown
+mod Standing
 mod Staying
 mod Telling
 mod Unsealing
 mod Users
+mod Words

@@ -6,6 +6,7 @@ pub mod Drawn
 pub mod Drops
 pub mod Firsts
 pub mod Heard
+pub mod Keeping
 pub mod Manual
 pub mod Offers
 pub mod Others
@@ -20,3 +21,4 @@ pub mod Standing
 pub mod Staying
 pub mod ToldTexts
 pub mod Unsealed
+pub mod Words

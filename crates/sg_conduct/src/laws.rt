@@ -7,6 +7,7 @@ ghost use Rattle.sg_conduct.specs.Causes.{RefusedAnswersShowCauses};
 ghost use Rattle.sg_conduct.specs.Drawn.{OwnKeysAreDrawn};
 ghost use Rattle.sg_conduct.specs.Drops.{DropsShowCauses};
 ghost use Rattle.sg_conduct.specs.Heard.{CallsWereHeard};
+ghost use Rattle.sg_conduct.specs.Keeping.{CallsKeepPlaces};
 ghost use Rattle.sg_conduct.specs.Manual.{ManualCallsAreTaken};
 ghost use Rattle.sg_conduct.specs.Offers.{OffersAreTaken};
 ghost use Rattle.sg_conduct.specs.Others.{OtherCallsStay};
@@ -18,6 +19,7 @@ ghost use Rattle.sg_conduct.specs.Standing.{SessionsHaveDone};
 ghost use Rattle.sg_conduct.specs.Staying.{SessionsStayOpen};
 ghost use Rattle.sg_conduct.specs.ToldTexts.{ToldTextsAreOwn};
 ghost use Rattle.sg_conduct.specs.Unsealed.{EachOpeningIsUnsealed};
+ghost use Rattle.sg_conduct.specs.Words.{WordsMean};
 
 use sg_agreement::{active_media_are_agreed, agreements_are_sound, offers_fit_their_calls};
 
@@ -48,7 +50,8 @@ pub fn drops_show_causes()
     offers_fit_their_calls();
 }
 
-/// What a session has done is what the run opened or sealed in it.
+/// What a session has done is what the run opened or sealed in it: what each entry of its very name did, in their order, and
+/// nothing else.
 pub fn sessions_have_done_what_was_done()
     ensures { (events : List Event) → SessionsHaveDone events }
 {
@@ -184,3 +187,20 @@ pub fn refusals_show_causes()
     active_media_are_agreed();
     offers_fit_their_calls();
 }
+
+/// A call that is still there has its slot and its media, whatever came. One that has had a generation goes on as it was where a
+/// later offer of its is rejected. A new call gets the lowest free slot, and is there as it is told. And a tick and a datagram leave
+/// each call its offer and its generations too.
+pub fn calls_keep_their_places()
+    ensures { (events : List Event) → CallsKeepPlaces events }
+{
+    agreements_are_sound();
+    active_media_are_agreed();
+    offers_fit_their_calls();
+}
+
+/// Octets are taken whole, names of sessions are the same where they are equal alone, and a suite has the tag and the key that its
+/// name says.
+pub fn words_mean_what_they_say()
+    ensures { WordsMean }
+{}

@@ -29,6 +29,7 @@ use Rattle.sg_conduct.specs.Causes.{RefusedAnswersShowCauses}
 use Rattle.sg_conduct.specs.Drawn.{OwnKeysAreDrawn}
 use Rattle.sg_conduct.specs.Drops.{DropShowsCause}
 use Rattle.sg_conduct.specs.Heard.{CallsWereHeard}
+use Rattle.sg_conduct.specs.Keeping.{CallsKeepPlaces}
 use Rattle.sg_conduct.specs.Manual.{ManualIsTaken}
 use Rattle.sg_conduct.specs.Offers.{OfferIsTaken}
 use Rattle.sg_conduct.specs.Others.{OtherCallsStay}
@@ -38,6 +39,7 @@ use Rattle.sg_conduct.specs.Standing.{SessionsHaveDone}
 use Rattle.sg_conduct.specs.Staying.{SessionsStayOpen}
 use Rattle.sg_conduct.specs.ToldTexts.{ToldTextsAreOwn}
 use Rattle.sg_conduct.specs.Unsealed.{EachOpeningIsUnsealed}
+use Rattle.sg_conduct.specs.Words.{WordsMean}
 use Rattle.sg_passages.specs.Passages.{Passage}
 use Rattle.sg_passages.specs.PutOut.{EachArrivingIsPutOut, EachDepartingIsSealed, EachOpeningGoesOut, EachOpeningIsSealed, EachSealGoesOut}
 use Rattle.sg_passages.specs.Told.{EachAsTold, EachDatagramIsTold, OpensWhatGoesOut, PlainTextsHaveNoKey, RefusalChangesNothing, SealsWhatGoesOut, SignalStaysIn}
@@ -112,3 +114,5 @@ pub record Headline (events : List Event) (passages : List Passage) : Type 0 whe
   pub stay : SessionsStayOpen events
   pub own_texts : ToldTextsAreOwn events
   pub own_keys : OwnKeysAreDrawn events
+  pub places : CallsKeepPlaces events
+  pub words : WordsMean

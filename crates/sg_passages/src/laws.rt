@@ -48,6 +48,8 @@ pub fn the_headline_holds()
     sg_conduct::sessions_stay_open();
     sg_conduct::told_texts_are_own();
     sg_conduct::own_keys_are_drawn();
+    sg_conduct::calls_keep_their_places();
+    sg_conduct::words_mean_what_they_say();
 }
 
 /// A run that tells everything as the gateway gives it is one of these.

@@ -64,4 +64,6 @@ returns c = λ events passages are. record {
   stay = c.sessions_stay_open.ensures events;
   own_texts = c.told_texts_are_own.ensures events;
   own_keys = c.own_keys_are_drawn.ensures events;
+  places = c.calls_keep_their_places.ensures events;
+  words = c.words_mean_what_they_say.ensures;
 }
