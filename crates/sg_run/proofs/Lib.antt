@@ -1,2 +1,6 @@
+mod ByOptions
 mod Commands
+mod Countings
+mod LinesSay
+mod MigrationWrites
 mod Sends

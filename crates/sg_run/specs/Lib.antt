@@ -1,2 +1,6 @@
+pub mod ByOption
+pub mod Counted
+pub mod LineWords
+pub mod Migrates
 pub mod Run
 pub mod Sent
