@@ -1,7 +1,5 @@
 -- The numbers of a demonstration count what its gateway tells.
 use Rattle.std.proofs.Common.{◌≡◌, ◌⊎◌, inl, inr, ℕ, zero, suc, ◌+◌, ◌-◌, ◌%◌, ◌≤◌, Bool, true, false, cond, eqb, List, [], ◌∷◌, ◌++◌, map, fold, Option, Some, None, Result, Ok, Err, refl, sym, ap, ◌∙◌, subst, arith}
-use Rattle.std.proofs.lemmas.Grind.{flat_map-append}
-use Rattle.std.proofs.lemmas.List.{append-nil}
 use Rattle.std.proofs.lemmas.List.Sums.{sum_by-append, sum_by-cons}
 use Rattle.sg_session.specs.Opening.{opens}
 use Rattle.std.specs.Prelude.{is_ok, is_some, length, option_to_list, slice_get}
@@ -20,7 +18,7 @@ use Rattle.sg_demo.specs.Counting.{Count, counted, none_counted, peers_counted, 
 use Rattle.sg_demo.specs.Demonstration.{Demo, called_by, calls_made, demo_of, demonstration, events_shown, manual_call, slot_told, with_call, with_caller, with_keys, with_round, with_rounds, world_of}
 use Rattle.sg_demo.specs.Packets.{with_last_bit_changed}
 use Rattle.sg_demo.specs.Words.{key_drawn, next_word}
-use Rattle.sg_demo.specs.Turns.{Arriving, Turns, address_of, event_of, from_peer, from_plain, origin_of, turn_of as demo_turn, turns_of, with_turn}
+use Rattle.sg_demo.specs.Turns.{Arriving, Turns, address_of, event_of, from_peer, origin_of, turn_of as demo_turn, turns_of, with_turn}
 use Rattle.sg_demo.specs.declared.action.Action.{Action}
 use Rattle.sg_demo.specs.declared.action.Action.TheVariants as action
 use Rattle.sg_demo.specs.declared.origin.Origin.{Origin}
@@ -38,9 +36,9 @@ use Rattle.sg_gateway.specs.Signals as signals
 use Rattle.sg_gateway.specs.Step.{Event, Datagram, Signalled, step}
 use Rattle.sg_gateway.specs.World.{Call, World, call_of, empty, is_full}
 use Rattle.sg_outcome.specs.declared.outcomes.Outcome.{Outcome}
-use Rattle.sg_outcome.specs.declared.outcomes.Outcome.TheVariants.{Made, Live, Sdp, Refused, Ended, Out, Dropped, Unsent}
+use Rattle.sg_outcome.specs.declared.outcomes.Outcome.TheVariants.{Made, Live, Refused, Out, Dropped}
 use Rattle.rand_pcg.specs.Lcg.{Lcg}
-use Rattle.sg_run.specs.Counted.{CountsWhatIsTold, comes_to, comes_to_plain, comes_to_secure, is_bad_tag, is_made, is_manual, is_out, is_repeat, told_where}
+use Rattle.sg_run.specs.Counted.{CountsWhatIsTold, comes_to, comes_to_plain, comes_to_secure, is_bad_tag, is_made, is_manual, is_out, is_repeat}
 
 -- ---- counts of a run are sums over its turns
 

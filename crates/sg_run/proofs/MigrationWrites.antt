@@ -1,7 +1,7 @@
 -- What a migration writes is the script of version 2 of what it read.
-use Rattle.std.proofs.Common.{◌≡◌, ℕ, List, [], refl, subst, true}
+use Rattle.std.proofs.Common.{◌≡◌, ℕ, List, [], refl, subst}
 use Rattle.sg_migrate.specs.Migrated.{of_migration, written_of}
-use Rattle.sg_migrate.specs.Migration.{IsMigration, MigrationTellings, undrawn}
+use Rattle.sg_migrate.specs.Migration.{IsMigration, MigrationTellings}
 use Rattle.sg_run.specs.Migrates.{WritesMigrated}
 use Rattle.sg_trace.specs.Loop.{LoopEnds}
 use Rattle.sg_trace.specs.declared.status.Status.{Status}
