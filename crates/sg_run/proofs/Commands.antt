@@ -16,6 +16,7 @@ use Rattle.sg_edge.proofs.Passed.{wrote_none}
 use Rattle.sg_edge.specs.Told.{Rose, Tally}
 use Rattle.sg_gateway.specs.Step.{Event}
 use Rattle.sg_migrate.specs.Migrated.{of_migration, written_of}
+use Rattle.sg_migrate.specs.Migration.{IsMigration}
 use Rattle.sg_mux.specs.Latest.{LegsAreMuxed}
 use Rattle.sg_mux.specs.Via.{events_in as table_events, outcomes_in, passages_in}
 use Rattle.sg_passages.specs.Passages.{Passage}
@@ -31,8 +32,12 @@ use Rattle.sg_relay.specs.Weaving.{Weaves}
 use Rattle.sg_run.proofs.Captures.{captures_begin}
 use Rattle.sg_run.proofs.Damage.{damage_is_told}
 use Rattle.sg_run.proofs.Heard.{bridges_hear, relays_hear, relays_hear_as_bridges}
+use Rattle.sg_run.proofs.ByOptions.{told_plainly}
+use Rattle.sg_run.proofs.Countings.{demonstration_counts}
+use Rattle.sg_run.proofs.MigrationWrites.{writes_migrated}
 use Rattle.sg_run.proofs.Sends.{joined_sends, plain_sends}
-use Rattle.sg_run.specs.Run.{AreTaken, HasBridged, HasCaptured, HasDone, HasMigrated, HasRelayed, HasRelayedJoined, HasReplayed, HasRun, HasShown, LeavesAlone, LeavesOthersAlone, Lent, Surroundings, PlaysInBatches, of_relay, of_replay}
+use Rattle.sg_run.specs.ByOption.{GoesByOption}
+use Rattle.sg_run.specs.Run.{AreTaken, HasBridged, HasCaptured, HasDone, HasMigrated, HasRelayed, HasRelayedJoined, HasReplayed, HasRun, HasShown, LeavesAlone, LeavesOthersAlone, Lent, Surroundings, PlaysInBatches, of_migration as of_migration_tellings, of_relay, of_replay}
 use Rattle.sg_words.specs.Commands.{AreWordsOf, IsNoCommand, Words}
 use Rattle.sg_words.specs.declared.command.Command.{Command}
 use Rattle.sg_words.specs.declared.command.Command.TheVariants.{Replay, Relay, RelayJoined, Demo, Migrate, Bridge}
@@ -54,8 +59,16 @@ no_outcomes : (muxes : Bool) → outcomes_in muxes [] ≡ []
 no_outcomes true = refl
 no_outcomes false = refl
 
-not_replayed : (legs : (es : List Event) → LegsAreMuxed es) (muxes : Bool) (old : Surroundings) → HasReplayed muxes NoMemory old old [] []
-not_replayed legs muxes old = record {
+-- what the option means, of every run
+abbrev pub OptionHolds : Type 0
+OptionHolds = (muxes : Bool) (came : List Event) → GoesByOption muxes came (table_events muxes came) (passages_in muxes came)
+
+nothing_by : OptionHolds → (muxes : Bool) → GoesByOption muxes [] [] []
+nothing_by option true = option true []
+nothing_by option false = option false []
+
+not_replayed : (legs : (es : List Event) → LegsAreMuxed es) (option : OptionHolds) (muxes : Bool) (old : Surroundings) → HasReplayed muxes NoMemory old old [] []
+not_replayed legs option muxes old = record {
   octets = [];
   draws = [];
   out = [];
@@ -63,16 +76,18 @@ not_replayed legs muxes old = record {
   events_are = no_events muxes;
   passages_are = no_passages muxes;
   legs = λ before after is. legs before;
+  option = nothing_by option muxes;
   complete = λ none all rest left left' script. inr refl;
 }
 
-not_relayed : (legs : (es : List Event) → LegsAreMuxed es) (muxes : Bool) (turns : ℕ) (old : Surroundings) → HasRelayed muxes turns NoMemory old old [] []
-not_relayed legs muxes turns old =
+not_relayed : (legs : (es : List Event) → LegsAreMuxed es) (option : OptionHolds) (muxes : Bool) (turns : ℕ) (old : Surroundings) → HasRelayed muxes turns NoMemory old old [] []
+not_relayed legs option muxes turns old =
     let none : plain.acts muxes [] ≡ [] = ap (map act_of) (no_outcomes muxes) in record {
       run = nothing_passed plain.weaves (plain.acts muxes) (plain.world muxes) none turns (of_relay old) old.failures;
       events_are = no_events muxes;
       passages_are = no_passages muxes;
       legs = λ before after is. legs before;
+      option = nothing_by option muxes;
       sends = plain_sends muxes NoMemory turns _ _ none_passed (none_relayed plain.weaves (plain.acts muxes) none (of_relay old) turns);
       most = omega arith;
     }
@@ -82,6 +97,7 @@ not_relayed_joined law turns old = record {
   run = nothing_passed joined.weaves joined.acts joined.world refl turns (of_relay old) old.failures;
   events_are = refl;
   passages_are = refl;
+  plain = told_plainly [];
   holds = law [];
   heard = relays_hear;
   alike = relays_hear_as_bridges;
@@ -94,18 +110,22 @@ not_shown calls start old = record {
   is = ([], (summary_text (demonstration calls start), refl), wrote_none old.written);
   events_are = (events_shown calls start, refl);
   passages_are = refl;
+  plain = told_plainly [];
+  counts = demonstration_counts calls start;
   complete = λ none. inr refl;
 }
 
 not_migrated : (old : Surroundings) → HasMigrated NoMemory old old [] []
-not_migrated old = record {
-  octets = [];
-  out = [];
-  is = record { run = nothing_run of_migration (written_of 0) 1 true _ refl; quiet = λ is. cc };
-  events_are = refl;
-  passages_are = refl;
-  complete = λ source sink all rest left left' script. inr refl;
-}
+not_migrated old =
+    let none : IsMigration NoMemory (of_migration_tellings old) (of_migration_tellings old) [] [] = record { run = nothing_run of_migration (written_of 0) 1 true _ refl; quiet = λ is. cc } in record {
+      octets = [];
+      out = [];
+      is = none;
+      events_are = refl;
+      passages_are = refl;
+      writes = writes_migrated NoMemory _ _ [] [] none;
+      complete = λ source sink all rest left left' script. inr refl;
+    }
 
 not_captured : (old : Surroundings) → HasCaptured NoMemory old old [] []
 not_captured old = record {
@@ -117,6 +137,7 @@ not_captured old = record {
   passages_are = refl;
   begins = captures_begin;
   damage = damage_is_told [] [];
+  plain = told_plainly [];
   complete = λ none all rest left left' script. inr refl;
 }
 
@@ -128,23 +149,24 @@ not_bridged law old = record {
   is = nothing_run of_bridge bridge_text 2 true (of_replay old) refl;
   events_are = refl;
   passages_are = refl;
+  plain = told_plainly [];
   holds = law [];
   heard = bridges_hear;
   alike = λ none. record { said = refl; stop = refl; left = refl; events = refl; told = refl; text = refl };
   complete = λ none all rest left left' script. inr refl;
 }
 
-none_done : (legs : (es : List Event) → LegsAreMuxed es) (law : (said : List Said) → BridgeHolds said) (command : Command) (old : Surroundings) → HasDone command NoMemory old old [] []
-none_done legs law (Replay workers muxes) old = not_replayed legs muxes old
-none_done legs law (Relay turns muxes) old = not_relayed legs muxes turns old
-none_done legs law (RelayJoined turns) old = not_relayed_joined law turns old
-none_done legs law (Demo calls start workers) old = not_shown calls start old
-none_done legs law Migrate old = not_migrated old
-none_done legs law commands.Capture old = not_captured old
-none_done legs law Bridge old = not_bridged law old
+none_done : (legs : (es : List Event) → LegsAreMuxed es) (option : OptionHolds) (law : (said : List Said) → BridgeHolds said) (command : Command) (old : Surroundings) → HasDone command NoMemory old old [] []
+none_done legs option law (Replay workers muxes) old = not_replayed legs option muxes old
+none_done legs option law (Relay turns muxes) old = not_relayed legs option muxes turns old
+none_done legs option law (RelayJoined turns) old = not_relayed_joined law turns old
+none_done legs option law (Demo calls start workers) old = not_shown calls start old
+none_done legs option law Migrate old = not_migrated old
+none_done legs option law commands.Capture old = not_captured old
+none_done legs option law Bridge old = not_bridged law old
 
-pub not_begun : ((es : List Event) → LegsAreMuxed es) → ((said : List Said) → BridgeHolds said) → (words : Words) (old : Surroundings) → HasRun words NoMemory old old [] []
-not_begun legs law words old = λ command are. none_done legs law command old
+pub not_begun : ((es : List Event) → LegsAreMuxed es) → OptionHolds → ((said : List Said) → BridgeHolds said) → (words : Words) (old : Surroundings) → HasRun words NoMemory old old [] []
+not_begun legs option law words old = λ command are. none_done legs option law command old
 
 -- words that are no command
 pub no_run : (words : Words) (status : Status) (old new : Surroundings) → IsNoCommand words → HasRun words status old new [] []

@@ -3,4 +3,8 @@ mod Commands
 mod Damage
 mod Heard
 mod Lines
+mod ByOptions
+mod Countings
+mod LinesSay
+mod MigrationWrites
 mod Sends

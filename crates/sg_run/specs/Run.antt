@@ -29,6 +29,9 @@ use Rattle.sg_relay.specs.Relay.{deeds_by, woven_of}
 use Rattle.sg_relay.specs.Relay as relays
 use Rattle.sg_run.specs.Captures.{CapturesBegin, DamageIsTold}
 use Rattle.sg_run.specs.Heard.{IsHeard, IsHeardByRelay, LinesAreHeard, RelaysHearAsBridges}
+use Rattle.sg_run.specs.ByOption.{AreToldPlainly, GoesByOption}
+use Rattle.sg_run.specs.Counted.{CountsWhatIsTold}
+use Rattle.sg_run.specs.Migrates.{WritesMigrated}
 use Rattle.sg_run.specs.Sent.{SendsAsTold, put_out_in, put_out_in_bridge}
 use Rattle.sg_words.specs.Commands.{AreWordsOf, Words}
 use Rattle.sg_words.specs.declared.command.Command.{Command}
@@ -60,8 +63,8 @@ pub record NoneOfScriptsFailed (old new : Failures) : Type 0 where
   pub noise : ¬ Rose old.noise new.noise
 
 -- A replay read, drew and wrote these octets; these are its events as they come to the gateway, and what is told of them. The
--- legs that share their ports, where they may, are after each event those of which offers and answers say so. Where nothing fails
--- it plays a script in the grammar to the end, or memory runs out.
+-- legs that share their ports, where they may, are after each event those of which offers and answers say so. Without the option
+-- all comes and is told as it is. Where nothing fails it plays a script in the grammar to the end, or memory runs out.
 pub record HasReplayed (muxes : Bool) (status : Status) (old new : Surroundings) (events : List Event) (passages : List Passage) : Type 0 where
   pub octets : List ℕ
   pub draws : List ℕ
@@ -70,6 +73,7 @@ pub record HasReplayed (muxes : Bool) (status : Status) (old new : Surroundings)
   pub events_are : events ≡ table_events muxes (replayed octets draws).events
   pub passages_are : passages ≡ passages_in muxes (replayed octets draws).events
   pub legs : LegsAreMuxedThroughout (replayed octets draws).events
+  pub option : GoesByOption muxes (replayed octets draws).events events passages
   pub complete : NoneOfScriptsFailed old.failures new.failures → IsCompleteReplay status old.left new.left
 
 -- This passed between a relay and the outside; these are its events as they come to the gateway, and what is told of them.
@@ -81,6 +85,7 @@ pub record HasRelayed (muxes : Bool) (turns : ℕ) (status : Status) (old new : 
   pub events_are : events ≡ table_events muxes (woven_of plain.weaves run.passed).deeds
   pub passages_are : passages ≡ passages_in muxes (woven_of plain.weaves run.passed).deeds
   pub legs : LegsAreMuxedThroughout (woven_of plain.weaves run.passed).deeds
+  pub option : GoesByOption muxes (woven_of plain.weaves run.passed).deeds events passages
   pub sends : SendsAsTold status run.passed.calls (λ receipts. put_out_in (passages_in muxes (deeds_by plain.weaves run.passed receipts)))
   pub most : new.readings.count ≤ old.readings.count + (turns + 1)
 
@@ -92,6 +97,7 @@ pub record HasRelayedJoined (turns : ℕ) (status : Status) (old new : Surroundi
   pub run : HasPassed joined.weaves joined.acts joined.world status turns (of_relay old) (of_relay new) old.failures new.failures
   pub events_are : events ≡ bridged_events (woven_of joined.weaves run.passed).deeds
   pub passages_are : passages ≡ plain_passages events
+  pub plain : AreToldPlainly passages
   pub holds : BridgeHolds (woven_of joined.weaves run.passed).deeds
   pub heard : LinesAreHeard IsHeardByRelay
   pub alike : RelaysHearAsBridges
@@ -103,22 +109,25 @@ abbrev pub AreTaken : Status → List Event → List Event → Type 0
 AreTaken Done events all = events ≡ all
 AreTaken other events all = IsPrefixOf events all
 
--- The nine lines of the demonstration were written, or a prefix of them; these are its events, told as they are. Where the sink
--- doesn't fail all are written, or memory runs out.
+-- The nine lines of the demonstration were written, or a prefix of them; these are its events, told as they are, and its numbers
+-- count them. Where the sink doesn't fail all are written, or memory runs out.
 pub record HasShown (calls start : ℕ) (status : Status) (old new : Surroundings) (events : List Event) (passages : List Passage) : Type 0 where
   pub is : IsShown status old.written new.written (summary_text (demonstration calls start))
   pub events_are : AreTaken status events (events_shown calls start)
   pub passages_are : passages ≡ plain_passages events
+  pub plain : AreToldPlainly passages
+  pub counts : CountsWhatIsTold calls (demonstration calls start) (events_shown calls start)
   pub complete : ¬ Rose old.failures.sink new.failures.sink → (status ≡ Done) ⊎ (status ≡ NoMemory)
 
--- A migration read and wrote these octets. It hands no event to the gateway. Where nothing fails it writes a script of version 1 to
--- the end, or memory runs out.
+-- A migration read and wrote these octets: the script of version 2 of what it read, or of the first lines. It hands no event to the
+-- gateway. Where nothing fails it writes a script of version 1 to the end, or memory runs out.
 pub record HasMigrated (status : Status) (old new : Surroundings) (events : List Event) (passages : List Passage) : Type 0 where
   pub octets : List ℕ
   pub out : List ℕ
   pub is : IsMigration status (of_migration old) (of_migration new) octets out
   pub events_are : events ≡ []
   pub passages_are : passages ≡ []
+  pub writes : WritesMigrated status octets out
   pub complete : ¬ Rose old.failures.source new.failures.source → ¬ Rose old.failures.sink new.failures.sink
       → migrations.IsCompleteMigration status old.left new.left
 
@@ -134,6 +143,7 @@ pub record HasCaptured (status : Status) (old new : Surroundings) (events : List
   pub passages_are : passages ≡ plain_passages events
   pub begins : CapturesBegin
   pub damage : DamageIsTold octets draws
+  pub plain : AreToldPlainly passages
   pub complete : NoneOfScriptsFailed old.failures new.failures → IsCompleteCapture status old.left new.left
 
 -- A bridge read, drew and wrote these octets, and these are its events at the gateway, each inner one too, with what the
@@ -147,6 +157,7 @@ pub record HasBridged (status : Status) (old new : Surroundings) (events : List 
   pub is : IsBridge status (of_replay old) (of_replay new) octets draws out
   pub events_are : events ≡ bridged_events (bridge_trace octets draws).deeds
   pub passages_are : passages ≡ plain_passages events
+  pub plain : AreToldPlainly passages
   pub holds : BridgeHolds (bridge_trace octets draws).deeds
   pub heard : LinesAreHeard IsHeard
   pub alike : JoinsNone octets → IsPlayedAlike octets draws

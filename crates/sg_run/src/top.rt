@@ -16,11 +16,17 @@ ghost use Rattle.sg_migrate.specs.Migrated.{IsOfVersionOne, migrated};
 ghost use Rattle.sg_migrate.specs.VersionTwo.{IsVersionTwo, TicksFirst};
 ghost use Rattle.sg_mux.specs.Lined.{IsToldWithLines};
 ghost use Rattle.sg_mux.specs.Sharing.{SharesAsTold};
+ghost use Rattle.sg_outcome.specs.declared.outcomes.Outcome.{Outcome};
 ghost use Rattle.sg_passages.specs.Headline.{Headline};
 ghost use Rattle.sg_passages.specs.Passages.{Passage};
+ghost use Rattle.sg_run.specs.LineWords.{SaysWhatIsTold};
 ghost use Rattle.sg_run.specs.Run.{HasRun, LeavesOthersAlone, PlaysInBatches};
 ghost use Rattle.sg_words.specs.Commands.{IsNoCommand};
 
+use crate::laws::{
+    demonstrations_count_what_is_told, lines_say_what_is_told, migrations_write_what_is_migrated,
+    runs_go_by_their_option,
+};
 use sg_audit::the_pages_hold;
 use sg_bridge::{bridge, scripts_without_joins_are_replayed};
 use sg_capture::capture;
@@ -100,6 +106,7 @@ pub fn run<R: Threads + Sync, S: Source, K: Sink, L: Link, C: Clock, N: Noise, G
     ensures captures { (octets draws : List ℕ) → CaptureHolds octets draws }
     ensures shares { (before : List Event) (port : ℕ) (from : Address) (octets : Octets) → SharesAsTold before port from octets }
     ensures texts { (before : List Event) (id : CallId) (noise answer : List ℕ) → IsToldWithLines before id noise answer }
+    ensures says { (told : Outcome) → SaysWhatIsTold told }
     ensures datagrams_tick { (moment port : ℕ) (from : Address) (octets : List ℕ) → TicksFirst moment port from octets }
     ensures read { EndedBy (result ≡ Status.Read) (PlaysInBatches (map string_bytes words.now) × IsWant result) (S.faults source.old) (S.faults source.new) (S.failed source.new) }
     ensures write { HasFailed (result ≡ Status.Write) (K.faults sink.old) (K.faults sink.new) (K.failed sink.new) }
@@ -114,6 +121,10 @@ pub fn run<R: Threads + Sync, S: Source, K: Sink, L: Link, C: Clock, N: Noise, G
     legs_are_muxed_by_their_texts();
     ports_are_shared_as_told();
     told_texts_are_descriptions();
+    runs_go_by_their_option();
+    lines_say_what_is_told();
+    migrations_write_what_is_migrated();
+    demonstrations_count_what_is_told();
     the_capture_holds();
     the_bridge_holds();
     scripts_without_joins_are_replayed();
