@@ -29,6 +29,7 @@ use Rattle.sg_relay.specs.Relay.{IsRelay}
 use Rattle.sg_relay.specs.Relay as relays
 use Rattle.sg_relay.specs.Weaving.{Weaves}
 use Rattle.sg_run.proofs.Sends.{joined_sends, plain_sends}
+use Rattle.sg_run.proofs.Writes.{joined_writes, none_written, plain_writes}
 use Rattle.sg_run.specs.Run.{AreTaken, HasBridged, HasCaptured, HasDone, HasMigrated, HasRelayed, HasRelayedJoined, HasReplayed, HasRun, HasShown, LeavesAlone, LeavesOthersAlone, Lent, Surroundings, PlaysInBatches, of_relay, of_replay}
 use Rattle.sg_words.specs.Commands.{AreWordsOf, IsNoCommand, Words}
 use Rattle.sg_words.specs.declared.command.Command.{Command}
@@ -59,6 +60,7 @@ not_replayed legs muxes old = record {
   is = nothing_replayed muxes (of_replay old);
   events_are = no_events muxes;
   passages_are = no_passages muxes;
+  written = ([], refl);
   legs = λ before after is. legs before;
   complete = λ none all rest left left' script. inr refl;
 }
@@ -71,6 +73,7 @@ not_relayed legs muxes turns old =
       passages_are = no_passages muxes;
       legs = λ before after is. legs before;
       sends = plain_sends muxes NoMemory turns _ _ none_passed (none_relayed plain.weaves (plain.acts muxes) none (of_relay old) turns);
+      written = plain_writes muxes NoMemory turns _ _ none_passed (none_relayed plain.weaves (plain.acts muxes) none (of_relay old) turns);
       most = omega arith;
     }
 
@@ -81,6 +84,7 @@ not_relayed_joined law turns old = record {
   passages_are = refl;
   holds = law [];
   sends = joined_sends NoMemory turns _ _ none_passed (none_relayed joined.weaves joined.acts refl (of_relay old) turns);
+  written = joined_writes NoMemory turns _ _ none_passed (none_relayed joined.weaves joined.acts refl (of_relay old) turns);
   most = omega arith;
 }
 
@@ -110,6 +114,7 @@ not_captured old = record {
   is = nothing_captured (of_replay old);
   events_are = refl;
   passages_are = refl;
+  written = record { played = []; ahead = []; split = refl; within = none_written _ };
   complete = λ none all rest left left' script. inr refl;
 }
 
@@ -121,6 +126,7 @@ not_bridged law old = record {
   is = nothing_run of_bridge bridge_text 2 true (of_replay old) refl;
   events_are = refl;
   passages_are = refl;
+  written = none_written _;
   holds = law [];
   alike = λ none. record { said = refl; stop = refl; left = refl; events = refl; told = refl; text = refl };
   complete = λ none all rest left left' script. inr refl;

@@ -1,2 +1,4 @@
 mod Commands
+mod Courses
 mod Sends
+mod Writes

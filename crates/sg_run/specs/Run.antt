@@ -28,6 +28,7 @@ use Rattle.sg_relay.specs.Plain as plain
 use Rattle.sg_relay.specs.Relay.{deeds_by, woven_of}
 use Rattle.sg_relay.specs.Relay as relays
 use Rattle.sg_run.specs.Sent.{SendsAsTold, put_out_in, put_out_in_bridge}
+use Rattle.sg_run.specs.Written.{CaptureHasWritten, HasWritten, RelayHasWritten, bridging_lines, joined_lines, passage_lines, plain_lines}
 use Rattle.sg_words.specs.Commands.{AreWordsOf, Words}
 use Rattle.sg_words.specs.declared.command.Command.{Command}
 use Rattle.sg_words.specs.declared.command.Command.TheVariants.{Replay, Relay, RelayJoined, Demo, Migrate, Capture, Bridge}
@@ -57,9 +58,9 @@ pub record NoneOfScriptsFailed (old new : Failures) : Type 0 where
   pub sink : ¬ Rose old.sink new.sink
   pub noise : ¬ Rose old.noise new.noise
 
--- A replay read, drew and wrote these octets; these are its events as they come to the gateway, and what is told of them. The
--- legs that share their ports, where they may, are after each event those of which offers and answers say so. Where nothing fails
--- it plays a script in the grammar to the end, or memory runs out.
+-- A replay read, drew and wrote these octets; these are its events as they come to the gateway, and what is told of them, whose lines
+-- were written. The legs that share their ports, where they may, are after each event those of which offers and answers say so. Where
+-- nothing fails it plays a script in the grammar to the end, or memory runs out.
 pub record HasReplayed (muxes : Bool) (status : Status) (old new : Surroundings) (events : List Event) (passages : List Passage) : Type 0 where
   pub octets : List ℕ
   pub draws : List ℕ
@@ -67,12 +68,13 @@ pub record HasReplayed (muxes : Bool) (status : Status) (old new : Surroundings)
   pub is : IsReplay muxes status (of_replay old) (of_replay new) octets draws out
   pub events_are : events ≡ table_events muxes (replayed octets draws).events
   pub passages_are : passages ≡ passages_in muxes (replayed octets draws).events
+  pub written : HasWritten status out (passage_lines passages)
   pub legs : LegsAreMuxedThroughout (replayed octets draws).events
   pub complete : NoneOfScriptsFailed old.failures new.failures → IsCompleteReplay status old.left new.left
 
 -- This passed between a relay and the outside; these are its events as they come to the gateway, and what is told of them.
 -- Whenever it received it listened at the ports of the calls that were there, and at no others, and had sent what is told as put
--- out, and nothing else. It took so many turns at most.
+-- out, and nothing else. It wrote the lines of all else that is told, and of packets that weren't sent. It took so many turns at most.
 -- Where nothing fails, sends aside, it handles a script in the grammar that asks for no more turns to the end, or memory runs out.
 pub record HasRelayed (muxes : Bool) (turns : ℕ) (status : Status) (old new : Surroundings) (events : List Event) (passages : List Passage) : Type 0 where
   pub run : HasPassed plain.weaves (plain.acts muxes) (plain.world muxes) status turns (of_relay old) (of_relay new) old.failures new.failures
@@ -80,6 +82,7 @@ pub record HasRelayed (muxes : Bool) (turns : ℕ) (status : Status) (old new : 
   pub passages_are : passages ≡ passages_in muxes (woven_of plain.weaves run.passed).deeds
   pub legs : LegsAreMuxedThroughout (woven_of plain.weaves run.passed).deeds
   pub sends : SendsAsTold status run.passed.calls (λ receipts. put_out_in (passages_in muxes (deeds_by plain.weaves run.passed receipts)))
+  pub written : RelayHasWritten status run.passed.calls run.passed.out (λ receipts. plain_lines (passages_in muxes (deeds_by plain.weaves run.passed receipts)))
   pub most : new.readings.count ≤ old.readings.count + (turns + 1)
 
 -- This passed between a relay whose calls may be joined and the outside. Its events at the gateway are those of its lines, its ticks
@@ -91,6 +94,7 @@ pub record HasRelayedJoined (turns : ℕ) (status : Status) (old new : Surroundi
   pub passages_are : passages ≡ plain_passages events
   pub holds : BridgeHolds (woven_of joined.weaves run.passed).deeds
   pub sends : SendsAsTold status run.passed.calls (λ receipts. put_out_in_bridge (bridgings (deeds_by joined.weaves run.passed receipts)))
+  pub written : RelayHasWritten status run.passed.calls run.passed.out (λ receipts. joined_lines (bridgings (deeds_by joined.weaves run.passed receipts)))
   pub most : new.readings.count ≤ old.readings.count + (turns + 1)
 
 -- with Done these are all of the demonstration's events, and else the first of them
@@ -117,8 +121,9 @@ pub record HasMigrated (status : Status) (old new : Surroundings) (events : List
   pub complete : ¬ Rose old.failures.source new.failures.source → ¬ Rose old.failures.sink new.failures.sink
       → migrations.IsCompleteMigration status old.left new.left
 
--- A script and the capture behind it were read, drew and wrote these octets; these are their events, told as they are. Where
--- nothing fails, and they have no fault, they are played to the end, or memory runs out.
+-- A script and the capture behind it were read, drew and wrote these octets; these are their events, told as they are. What is told
+-- was written, with the lines of skipped records between. Where nothing fails, and they have no fault, they are played to the end, or
+-- memory runs out.
 pub record HasCaptured (status : Status) (old new : Surroundings) (events : List Event) (passages : List Passage) : Type 0 where
   pub octets : List ℕ
   pub draws : List ℕ
@@ -126,10 +131,11 @@ pub record HasCaptured (status : Status) (old new : Surroundings) (events : List
   pub is : IsCapture status (of_replay old) (of_replay new) octets draws out
   pub events_are : events ≡ captured_events (captured octets draws).occurrences
   pub passages_are : passages ≡ plain_passages events
+  pub written : CaptureHasWritten status octets draws out passages
   pub complete : NoneOfScriptsFailed old.failures new.failures → IsCompleteCapture status old.left new.left
 
 -- A bridge read, drew and wrote these octets, and these are its events at the gateway, each inner one too, with what the
--- gateway tells of them; what is written is told by the definitions of bridges. What a bridge holds of joined calls is so of
+-- gateway tells of them; the lines of what the bridge tells were written. What a bridge holds of joined calls is so of
 -- its lines, and where no line joins or parts it is played as a replay. Where nothing fails, and no line is outside the grammar, it
 -- is played to the end, or memory runs out.
 pub record HasBridged (status : Status) (old new : Surroundings) (events : List Event) (passages : List Passage) : Type 0 where
@@ -139,6 +145,7 @@ pub record HasBridged (status : Status) (old new : Surroundings) (events : List 
   pub is : IsBridge status (of_replay old) (of_replay new) octets draws out
   pub events_are : events ≡ bridged_events (bridge_trace octets draws).deeds
   pub passages_are : passages ≡ plain_passages events
+  pub written : HasWritten status out (bridging_lines (bridgings (bridge_trace octets draws).deeds))
   pub holds : BridgeHolds (bridge_trace octets draws).deeds
   pub alike : JoinsNone octets → IsPlayedAlike octets draws
   pub complete : NoneOfScriptsFailed old.failures new.failures → IsCompleteBridge status old.left new.left
