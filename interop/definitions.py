@@ -704,27 +704,14 @@ def replayed(script):
 
 
 def muxed(script):
-    """The same of a replay whose legs may share ports, one event behind another as `outcomes_in` has them."""
-    after, stepped = (definition("sg_mux.specs.Via", name) for name in ("muxing_after", "stepped"))
-    line = definition("sg_outcome.specs.OutcomeText", "outcome_line")
-    world, calls = definition("sg_gateway.specs.World", "empty"), definition("sg_mux.specs.Muxed", "nobody")
-    for event in events_of(script):
-        given = call(after, world, calls, event)
-        world, calls = call(stepped, world, calls, event).fields["world"], given.fields["calls"]
-        for outcome in given.fields["told"]:
-            yield bytes(call(line, outcome))
+    """What is written of a replay whose legs may share ports, by the definition of its text."""
+    yield bytes(call(definition("sg_playback.specs.Replay", "output_in"), True, events_of(script)))
 
 
 def bridged(script):
-    """The lines of what a bridge tells, by the definitions of what its lines say, of a part of it and of an outcome's text."""
-    bridging = definition("sg_pairs.specs.Bridged", "bridging")
-    line = definition("sg_pairs.specs.BridgeText", "bridge_outcome_line")
-    world, calls = definition("sg_gateway.specs.World", "empty"), definition("sg_pairs.specs.Pairs", "no_members")
-    for said in call(definition("sg_bridge.specs.Bridge", "bridge_trace"), tuple(script), ()).fields["deeds"]:
-        given = call(bridging, world, calls, said)
-        world, calls = given.fields["world"], given.fields["calls"]
-        for outcome in given.fields["told"]:
-            yield bytes(call(line, outcome))
+    """What is written of a bridge's script, by the definition of its text."""
+    said = call(definition("sg_bridge.specs.Bridge", "bridge_trace"), tuple(script), ()).fields["deeds"]
+    yield bytes(call(definition("sg_bridge.specs.Bridge", "bridge_text"), said))
 
 
 def migrated(script):

@@ -38,6 +38,8 @@ use Rattle.sg_run.proofs.MigrationWrites.{writes_migrated}
 use Rattle.sg_run.proofs.Sends.{joined_sends, plain_sends}
 use Rattle.sg_run.specs.ByOption.{GoesByOption}
 use Rattle.sg_run.specs.Run.{AreTaken, HasBridged, HasCaptured, HasDone, HasMigrated, HasRelayed, HasRelayedJoined, HasReplayed, HasRun, HasShown, LeavesAlone, LeavesOthersAlone, Lent, Surroundings, PlaysInBatches, of_migration as of_migration_tellings, of_relay, of_replay}
+use Rattle.sg_run.proofs.Writes.{joined_writes, none_written, plain_writes}
+use Rattle.sg_run.specs.Run.{AreTaken, HasBridged, HasCaptured, HasDone, HasMigrated, HasRelayed, HasRelayedJoined, HasReplayed, HasRun, HasShown, LeavesAlone, LeavesOthersAlone, Lent, Surroundings, PlaysInBatches, of_relay, of_replay}
 use Rattle.sg_words.specs.Commands.{AreWordsOf, IsNoCommand, Words}
 use Rattle.sg_words.specs.declared.command.Command.{Command}
 use Rattle.sg_words.specs.declared.command.Command.TheVariants.{Replay, Relay, RelayJoined, Demo, Migrate, Bridge}
@@ -75,6 +77,7 @@ not_replayed legs option muxes old = record {
   is = nothing_replayed muxes (of_replay old);
   events_are = no_events muxes;
   passages_are = no_passages muxes;
+  written = ([], refl);
   legs = λ before after is. legs before;
   option = nothing_by option muxes;
   complete = λ none all rest left left' script. inr refl;
@@ -89,6 +92,7 @@ not_relayed legs option muxes turns old =
       legs = λ before after is. legs before;
       option = nothing_by option muxes;
       sends = plain_sends muxes NoMemory turns _ _ none_passed (none_relayed plain.weaves (plain.acts muxes) none (of_relay old) turns);
+      written = plain_writes muxes NoMemory turns _ _ none_passed (none_relayed plain.weaves (plain.acts muxes) none (of_relay old) turns);
       most = omega arith;
     }
 
@@ -102,6 +106,7 @@ not_relayed_joined law turns old = record {
   heard = relays_hear;
   alike = relays_hear_as_bridges;
   sends = joined_sends NoMemory turns _ _ none_passed (none_relayed joined.weaves joined.acts refl (of_relay old) turns);
+  written = joined_writes NoMemory turns _ _ none_passed (none_relayed joined.weaves joined.acts refl (of_relay old) turns);
   most = omega arith;
 }
 
@@ -138,6 +143,7 @@ not_captured old = record {
   begins = captures_begin;
   damage = damage_is_told [] [];
   plain = told_plainly [];
+  written = record { played = []; ahead = []; split = refl; within = none_written _ };
   complete = λ none all rest left left' script. inr refl;
 }
 
@@ -150,6 +156,7 @@ not_bridged law old = record {
   events_are = refl;
   passages_are = refl;
   plain = told_plainly [];
+  written = none_written _;
   holds = law [];
   heard = bridges_hear;
   alike = λ none. record { said = refl; stop = refl; left = refl; events = refl; told = refl; text = refl };

@@ -7,4 +7,6 @@ mod ByOptions
 mod Countings
 mod LinesSay
 mod MigrationWrites
+mod Courses
 mod Sends
+mod Writes

@@ -67,7 +67,7 @@ told_plainly : (ts : List Turn) → flat_map (λ t. t.outcomes) ts ≡ flat_map 
 told_plainly [] = refl
 told_plainly (t ∷ ts) = ap (λ (l : List Outcome). t.outcomes ++ l) (told_plainly ts)
 
-in_passages : (muxes : Bool) (events : List Event) → outcomes_in muxes events ≡ flat_map (λ p. p.told) (passages_in muxes events)
+pub in_passages : (muxes : Bool) (events : List Event) → outcomes_in muxes events ≡ flat_map (λ p. p.told) (passages_in muxes events)
 in_passages true events = refl
 in_passages false events = told_plainly (turns events)
 

@@ -6,3 +6,4 @@ pub mod LineWords
 pub mod Migrates
 pub mod Run
 pub mod Sent
+pub mod Written

@@ -33,6 +33,7 @@ use Rattle.sg_run.specs.ByOption.{AreToldPlainly, GoesByOption}
 use Rattle.sg_run.specs.Counted.{CountsWhatIsTold}
 use Rattle.sg_run.specs.Migrates.{WritesMigrated}
 use Rattle.sg_run.specs.Sent.{SendsAsTold, put_out_in, put_out_in_bridge}
+use Rattle.sg_run.specs.Written.{CaptureHasWritten, HasWritten, RelayHasWritten, bridging_lines, joined_lines, passage_lines, plain_lines}
 use Rattle.sg_words.specs.Commands.{AreWordsOf, Words}
 use Rattle.sg_words.specs.declared.command.Command.{Command}
 use Rattle.sg_words.specs.declared.command.Command.TheVariants.{Replay, Relay, RelayJoined, Demo, Migrate, Capture, Bridge}
@@ -65,6 +66,9 @@ pub record NoneOfScriptsFailed (old new : Failures) : Type 0 where
 -- A replay read, drew and wrote these octets; these are its events as they come to the gateway, and what is told of them. The
 -- legs that share their ports, where they may, are after each event those of which offers and answers say so. Without the option
 -- all comes and is told as it is. Where nothing fails it plays a script in the grammar to the end, or memory runs out.
+-- A replay read, drew and wrote these octets; these are its events as they come to the gateway, and what is told of them, whose lines
+-- were written. The legs that share their ports, where they may, are after each event those of which offers and answers say so. Where
+-- nothing fails it plays a script in the grammar to the end, or memory runs out.
 pub record HasReplayed (muxes : Bool) (status : Status) (old new : Surroundings) (events : List Event) (passages : List Passage) : Type 0 where
   pub octets : List ℕ
   pub draws : List ℕ
@@ -72,13 +76,14 @@ pub record HasReplayed (muxes : Bool) (status : Status) (old new : Surroundings)
   pub is : IsReplay muxes status (of_replay old) (of_replay new) octets draws out
   pub events_are : events ≡ table_events muxes (replayed octets draws).events
   pub passages_are : passages ≡ passages_in muxes (replayed octets draws).events
+  pub written : HasWritten status out (passage_lines passages)
   pub legs : LegsAreMuxedThroughout (replayed octets draws).events
   pub option : GoesByOption muxes (replayed octets draws).events events passages
   pub complete : NoneOfScriptsFailed old.failures new.failures → IsCompleteReplay status old.left new.left
 
 -- This passed between a relay and the outside; these are its events as they come to the gateway, and what is told of them.
 -- Whenever it received it listened at the ports of the calls that were there, and at no others, and had sent what is told as put
--- out, and nothing else. It took so many turns at most.
+-- out, and nothing else. It wrote the lines of all else that is told, and of packets that weren't sent. It took so many turns at most.
 -- Where nothing fails, sends aside, it handles a script in the grammar that asks for no more turns to the end, or memory runs out.
 pub record HasRelayed (muxes : Bool) (turns : ℕ) (status : Status) (old new : Surroundings) (events : List Event) (passages : List Passage) : Type 0 where
   pub run : HasPassed plain.weaves (plain.acts muxes) (plain.world muxes) status turns (of_relay old) (of_relay new) old.failures new.failures
@@ -87,6 +92,7 @@ pub record HasRelayed (muxes : Bool) (turns : ℕ) (status : Status) (old new : 
   pub legs : LegsAreMuxedThroughout (woven_of plain.weaves run.passed).deeds
   pub option : GoesByOption muxes (woven_of plain.weaves run.passed).deeds events passages
   pub sends : SendsAsTold status run.passed.calls (λ receipts. put_out_in (passages_in muxes (deeds_by plain.weaves run.passed receipts)))
+  pub written : RelayHasWritten status run.passed.calls run.passed.out (λ receipts. plain_lines (passages_in muxes (deeds_by plain.weaves run.passed receipts)))
   pub most : new.readings.count ≤ old.readings.count + (turns + 1)
 
 -- This passed between a relay whose calls may be joined and the outside. Its events at the gateway are those of its lines, its ticks
@@ -102,6 +108,7 @@ pub record HasRelayedJoined (turns : ℕ) (status : Status) (old new : Surroundi
   pub heard : LinesAreHeard IsHeardByRelay
   pub alike : RelaysHearAsBridges
   pub sends : SendsAsTold status run.passed.calls (λ receipts. put_out_in_bridge (bridgings (deeds_by joined.weaves run.passed receipts)))
+  pub written : RelayHasWritten status run.passed.calls run.passed.out (λ receipts. joined_lines (bridgings (deeds_by joined.weaves run.passed receipts)))
   pub most : new.readings.count ≤ old.readings.count + (turns + 1)
 
 -- with Done these are all of the demonstration's events, and else the first of them
@@ -134,6 +141,9 @@ pub record HasMigrated (status : Status) (old new : Surroundings) (events : List
 -- A script and the capture behind it were read, drew and wrote these octets; these are their events, told as they are. A capture
 -- begins behind a line `capture`, and what is met of one that is cut off or damaged is what stands before, and its fault. Where
 -- nothing fails, and they have no fault, they are played to the end, or memory runs out.
+-- A script and the capture behind it were read, drew and wrote these octets; these are their events, told as they are. What is told
+-- was written, with the lines of skipped records between. Where nothing fails, and they have no fault, they are played to the end, or
+-- memory runs out.
 pub record HasCaptured (status : Status) (old new : Surroundings) (events : List Event) (passages : List Passage) : Type 0 where
   pub octets : List ℕ
   pub draws : List ℕ
@@ -150,6 +160,10 @@ pub record HasCaptured (status : Status) (old new : Surroundings) (events : List
 -- gateway tells of them; what is written is told by the definitions of bridges. What a bridge holds of joined calls is so of
 -- its lines, and where no line joins or parts it is played as a replay. A line that joins or parts says that, wherever it stands.
 -- Where nothing fails, and no line is outside the grammar, it is played to the end, or memory runs out.
+  pub written : CaptureHasWritten status octets draws out passages
+-- gateway tells of them; the lines of what the bridge tells were written. What a bridge holds of joined calls is so of
+-- its lines, and where no line joins or parts it is played as a replay. Where nothing fails, and no line is outside the grammar, it
+-- is played to the end, or memory runs out.
 pub record HasBridged (status : Status) (old new : Surroundings) (events : List Event) (passages : List Passage) : Type 0 where
   pub octets : List ℕ
   pub draws : List ℕ
@@ -158,6 +172,7 @@ pub record HasBridged (status : Status) (old new : Surroundings) (events : List 
   pub events_are : events ≡ bridged_events (bridge_trace octets draws).deeds
   pub passages_are : passages ≡ plain_passages events
   pub plain : AreToldPlainly passages
+  pub written : HasWritten status out (bridging_lines (bridgings (bridge_trace octets draws).deeds))
   pub holds : BridgeHolds (bridge_trace octets draws).deeds
   pub heard : LinesAreHeard IsHeard
   pub alike : JoinsNone octets → IsPlayedAlike octets draws
