@@ -63,12 +63,9 @@ pub record NoneOfScriptsFailed (old new : Failures) : Type 0 where
   pub sink : ¬ Rose old.sink new.sink
   pub noise : ¬ Rose old.noise new.noise
 
--- A replay read, drew and wrote these octets; these are its events as they come to the gateway, and what is told of them. The
--- legs that share their ports, where they may, are after each event those of which offers and answers say so. Without the option
--- all comes and is told as it is. Where nothing fails it plays a script in the grammar to the end, or memory runs out.
 -- A replay read, drew and wrote these octets; these are its events as they come to the gateway, and what is told of them, whose lines
--- were written. The legs that share their ports, where they may, are after each event those of which offers and answers say so. Where
--- nothing fails it plays a script in the grammar to the end, or memory runs out.
+-- were written. The legs that share their ports, where they may, are after each event those of which offers and answers say so; without
+-- the option all comes and is told as it is. Where nothing fails it plays a script in the grammar to the end, or memory runs out.
 pub record HasReplayed (muxes : Bool) (status : Status) (old new : Surroundings) (events : List Event) (passages : List Passage) : Type 0 where
   pub octets : List ℕ
   pub draws : List ℕ
@@ -138,11 +135,9 @@ pub record HasMigrated (status : Status) (old new : Surroundings) (events : List
   pub complete : ¬ Rose old.failures.source new.failures.source → ¬ Rose old.failures.sink new.failures.sink
       → migrations.IsCompleteMigration status old.left new.left
 
--- A script and the capture behind it were read, drew and wrote these octets; these are their events, told as they are. A capture
--- begins behind a line `capture`, and what is met of one that is cut off or damaged is what stands before, and its fault. Where
--- nothing fails, and they have no fault, they are played to the end, or memory runs out.
 -- A script and the capture behind it were read, drew and wrote these octets; these are their events, told as they are. What is told
--- was written, with the lines of skipped records between. Where nothing fails, and they have no fault, they are played to the end, or
+-- was written, with the lines of skipped records between. A capture begins behind a line `capture`, and what is met of one that is cut
+-- off or damaged is what stands before, and its fault. Where nothing fails, and they have no fault, they are played to the end, or
 -- memory runs out.
 pub record HasCaptured (status : Status) (old new : Surroundings) (events : List Event) (passages : List Passage) : Type 0 where
   pub octets : List ℕ
@@ -151,19 +146,16 @@ pub record HasCaptured (status : Status) (old new : Surroundings) (events : List
   pub is : IsCapture status (of_replay old) (of_replay new) octets draws out
   pub events_are : events ≡ captured_events (captured octets draws).occurrences
   pub passages_are : passages ≡ plain_passages events
+  pub written : CaptureHasWritten status octets draws out passages
   pub begins : CapturesBegin
   pub damage : DamageIsTold octets draws
   pub plain : AreToldPlainly passages
   pub complete : NoneOfScriptsFailed old.failures new.failures → IsCompleteCapture status old.left new.left
 
 -- A bridge read, drew and wrote these octets, and these are its events at the gateway, each inner one too, with what the
--- gateway tells of them; what is written is told by the definitions of bridges. What a bridge holds of joined calls is so of
+-- gateway tells of them; the lines of what the bridge tells were written. What a bridge holds of joined calls is so of
 -- its lines, and where no line joins or parts it is played as a replay. A line that joins or parts says that, wherever it stands.
 -- Where nothing fails, and no line is outside the grammar, it is played to the end, or memory runs out.
-  pub written : CaptureHasWritten status octets draws out passages
--- gateway tells of them; the lines of what the bridge tells were written. What a bridge holds of joined calls is so of
--- its lines, and where no line joins or parts it is played as a replay. Where nothing fails, and no line is outside the grammar, it
--- is played to the end, or memory runs out.
 pub record HasBridged (status : Status) (old new : Surroundings) (events : List Event) (passages : List Passage) : Type 0 where
   pub octets : List ℕ
   pub draws : List ℕ
