@@ -384,11 +384,18 @@ def has_a_priority(program):
 
 
 def a_late_offer_is_deleted(_):
-    """Where an offer isn't taken, or not in time, the configuration has the gateway forget it."""
-    text = (TOP / "examples/kamailio/kamailio.cfg").read_text()
-    blocks = re.findall(r"if \(!rtpengine_(?:offer|answer)\(\"[^\"]*\"\)\) \{(.*?)\n\t*\}", text, re.S)
-    assert len(blocks) >= 4 and all(re.match(r"(\s*#.*\n)*\s*rtpengine_delete\(\);", block) for block in blocks), blocks
-    return f"at {len(blocks)} places"
+    """Where a first offer isn't taken, or not in time, or is cancelled, the configuration has the gateway forget it. One within
+    a call ends no call, and an answer that isn't taken does."""
+    text = re.sub(r"\n\s*#.*", "", (TOP / "examples/kamailio/kamailio.cfg").read_text())
+    offer, *answers = re.findall(r"if \(!rtpengine_(?:offer|answer)\(\"[^\"]*\"\)\) \{\s*(.*?)\n\t*\}", text, re.S)
+    cancelled = re.findall(r"if \(is_method\(\"CANCEL\"\)\) \{\s*(.*?)\n", text)
+    for block in (offer, *cancelled):
+        assert block.startswith("if (!has_totag()) rtpengine_delete();"), block
+    for block in answers:
+        assert block.startswith("rtpengine_delete();"), block
+    assert 'if (is_method("UPDATE")) dlg_bye("all");' in answers[0], answers[0]
+    assert (len(cancelled), len(answers)) == (1, 3), (cancelled, answers)
+    return f"at {len(answers) + 2} places"
 
 
 ALL = (

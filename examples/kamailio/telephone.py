@@ -281,10 +281,11 @@ class Call:
             raise Refused(response.status())
         self.media.agrees(response.body)
 
-    def cancels(self):
-        """An INVITE that is cancelled while it rings: the response to it."""
+    def cancels(self, waits=180):
+        """An INVITE that is cancelled behind a response of this number, while it rings: the response to it. Within a call
+        nothing rings here, and 100 is the one to wait for."""
         branch = self.asks("INVITE", self.media.text())
-        while self.responses.get(timeout=PATIENCE).status() != 180:
+        while self.responses.get(timeout=PATIENCE).status() != waits:
             pass
         self.asks("CANCEL", number=self.number, branch=branch)
         response = self.waits("INVITE")
