@@ -30,6 +30,7 @@ from ng import metrics, ready  # noqa: E402
 from ng.following import legs_of  # noqa: E402
 
 TOP = TOOLS.parent
+ALARMS = TOP / "examples/prometheus/alarms.yml"
 LABEL = r'[a-z_]+="(?:[^"\\\n]|\\["\\n])*"'
 SAMPLE = re.compile(rf"([a-z_]+)(?:\{{{LABEL}(?:,{LABEL})*\}})? (-?[0-9.]+(?:e[+-][0-9]+)?)")
 CLAIMS = []
@@ -93,10 +94,44 @@ def told():
     if promtool:
         ran = subprocess.run([promtool, "check", "metrics"], input=text, capture_output=True, text=True, timeout=60)
         check(f"promtool: {ran.stdout}{ran.stderr}", ran.returncode == 0 and not ran.stdout + ran.stderr)
-        ran = subprocess.run([promtool, "check", "rules", TOP / "examples/prometheus/alarms.yml"], capture_output=True,
-                             text=True, timeout=60)
+        ran = subprocess.run([promtool, "check", "rules", ALARMS], capture_output=True, text=True, timeout=60)
         check(f"promtool on the alarms: {ran.stderr}", ran.returncode == 0)
+        alarmed(promtool)
     return {re.sub("_(bucket|sum|count)$", "", SAMPLE.fullmatch(line)[1]) for line in lines}
+
+
+# By alarm the samples at which it is raised, one a minute and as promtool has them: `1x9` is ten times 1, `0+9x20` grows by 9.
+AT = {"instance": "gateway:9123", "job": "srtpgw"}
+RAISED = {
+    "GatewayGone": {"srtpgw_up": "0x20"},
+    "GatewayBeganAnew": {"srtpgw_process_start_seconds": "1x9 2x10", 'srtpgw_calls_ended_total{why="gone"}': "0x9 3x10"},
+    "Full": {'srtpgw_calls{state="live"}': "200x20", 'srtpgw_calls{state="offered"}': "40x20", "srtpgw_calls_most": "256x20"},
+    "Refusing": {'srtpgw_requests_total{command="offer",result="error"}': "0+9x20",
+                 'srtpgw_requests_total{command="offer",result="ok"}': "0+9x20"},
+    "BoundNear": {'srtpgw_spent{of="keys"}': "9x20", 'srtpgw_drains_above{of="keys"}': "10x20"},
+}
+
+
+def at_a_gateway(series):
+    """A series with the labels that Prometheus gives it."""
+    name, _, labels = series.rstrip("}").partition("{")
+    labels = [*filter(None, [labels]), *(f'{key}="{value}"' for key, value in AT.items())]
+    return f"{name}{{{','.join(labels)}}}"
+
+
+def alarmed(promtool):
+    """Each alarm that compares metrics is raised where they are so: their labels have to fit."""
+    for alarm, samples in RAISED.items():
+        asked = [{"expr": f'count(ALERTS{{alertname="{alarm}",alertstate="firing"}}) > bool 0', "eval_time": "15m",
+                  "exp_samples": [{"labels": "{}", "value": 1}]}]
+        series = [{"series": at_a_gateway(name), "values": values} for name, values in samples.items()]
+        plays = {"rule_files": [str(ALARMS)], "evaluation_interval": "1m",
+                 "tests": [{"interval": "1m", "input_series": series, "promql_expr_test": asked}]}
+        with tempfile.NamedTemporaryFile("w", suffix=".yml") as file:
+            json.dump(plays, file)
+            file.flush()
+            ran = subprocess.run([promtool, "test", "rules", file.name], capture_output=True, text=True, timeout=60)
+        check(f"{alarm} is raised: {ran.stdout}{ran.stderr}", ran.returncode == 0)
 
 
 def named(names):
@@ -104,7 +139,7 @@ def named(names):
     page = (TOP / "docs/alarms.md").read_text(encoding="utf-8")
     board = json.loads((TOP / "examples/prometheus/board.json").read_text(encoding="utf-8"))
     asked = json.dumps([target["expr"] for panel in board["panels"] for target in panel["targets"]])
-    rules = (TOP / "examples/prometheus/alarms.yml").read_text(encoding="utf-8")
+    rules = ALARMS.read_text(encoding="utf-8")
     for where, text in (("the board", asked), ("the alarms", rules)):
         used = {re.sub("_(bucket|sum|count)$", "", name) for name in re.findall(r"srtpgw_[a-z_]+", text)}
         check(f"{where}: no metric is called {sorted(used - names)}", used and used <= names)
