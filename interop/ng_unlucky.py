@@ -341,6 +341,26 @@ def signals_to_all(program):
     return "it drains with its call, and ends with status 0 and a BYE"
 
 
+def signals_at_once(program):
+    """A signal that comes as soon as systemd is told that the daemon is ready is obeyed as any later one."""
+    numbers = signal.SIGTERM, signal.SIGINT, signal.SIGUSR1, signal.SIGHUP
+    kept, tells = [signal.getsignal(number) for number in numbers], ng_main.ready.tell
+
+    def told(**said):
+        if "READY" in said:
+            assert all(callable(signal.getsignal(number)) for number in numbers), "it is ready, and takes no signals"
+            os.kill(os.getpid(), signal.SIGTERM)
+    ng_main.ready.tell = told
+    try:
+        given = ng_main.words_of().parse_args(["--listen", "%s:%d" % NG, "--program", program, "--priority", "0"])
+        assert ng_main.run(given, lambda line: None) == 0
+    finally:
+        ng_main.ready.tell = tells
+        for number, handler in zip(numbers, kept):
+            signal.signal(number, handler)
+    return "it ends with status 0"
+
+
 def logs_are_begun_anew(program):
     """Behind SIGHUP the log of outcomes goes on in another file, which has the calls that are there."""
     with tempfile.TemporaryDirectory() as folder:
@@ -401,7 +421,7 @@ def a_late_offer_is_deleted(_):
 ALL = (
     odd_letters, nobody_reads, full_disks, unknown_commands, in_their_order, a_fault_of_its_own, answers_grow_old,
     optional_encryption, one_medium_holds, nothing_is_left, only_live_ones_are_told, held_calls, signals_to_all,
-    logs_are_begun_anew, has_a_priority, a_late_offer_is_deleted,
+    signals_at_once, logs_are_begun_anew, has_a_priority, a_late_offer_is_deleted,
 )
 
 

@@ -47,23 +47,29 @@ def run(given, log):
         outcomes = OutcomeLog(given.outcomes, given.outcomes_most) if given.outcomes else None
         book = begun(given, log, telling, outcomes)
         server = Server(book, given.listen, log)
+        take_signals(server, book, outcomes, log)
         stands = beside.Beside(given, book, server, log)
     except (Gone, Taken, Fault, OSError) as fault:
         log(f"it can't begin: {fault}")
         # What the daemon before it has left may have to be told yet.
         telling.close()
         return 1
-    for number in (signal.SIGTERM, signal.SIGINT):
-        signal.signal(number, lambda *_: server.close())
-    aside(signal.SIGUSR1, drain, book, log)
-    aside(signal.SIGHUP, begin_anew, outcomes, log)
     log(f"answers NG requests at {given.listen[0]}:{given.listen[1]}")
+    ready.tell(READY=1, STATUS="takes calls")
     server.serve(book.driver.drained.is_set)
     ready.tell(STOPPING=1, STATUS="ends")
     try:
         return ended(book, telling, log)
     finally:
         stands.close()
+
+
+def take_signals(server, book, outcomes, log):
+    """Has the system's signals do what they are for, from now on."""
+    for number in (signal.SIGTERM, signal.SIGINT):
+        signal.signal(number, lambda *_: server.close())
+    aside(signal.SIGUSR1, drain, book, log)
+    aside(signal.SIGHUP, begin_anew, outcomes, log)
 
 
 def aside(number, work, *given):

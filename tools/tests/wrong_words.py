@@ -20,7 +20,7 @@ from outcome_log import OutcomeLog  # noqa: E402
 KEY = "RAW80:" + "00" * 20
 OTHER = "RAW80:" + "11" * 20
 PSK = "00" * 16
-NG, SCRIPT, WATCH = "tools/ng/__main__.py", "tools/script.py", "tools/watch.py"
+NG, SCRIPT, WATCH, LATCH = "tools/ng/__main__.py", "tools/script.py", "tools/watch.py", "tools/latch.py"
 WRONG = [
     (NG, "--listen 127.0.0.1:99999"), (NG, "--listen 127.0.0.1:-1"), (NG, "--listen x"), (NG, "--step nan"), (NG, "--step 0"),
     (NG, "--step -1"), (NG, "--step 1000"), (NG, "--tell foo"), (NG, "--tell http://"), (NG, "--tell ftp://a/b"),
@@ -29,6 +29,8 @@ WRONG = [
     (NG, "--priority 100"), (NG, "--hold inf"), (NG, "--frob"),
     (WATCH, "--to nowhere/x --prometheus"), (WATCH, "--every nan"), (WATCH, "--every 0"), (WATCH, "--looks 0"),
     (WATCH, "--after -1"),
+    (LATCH, "follow 20000 10.1.0.2 46000 --seconds nan"), (LATCH, "follow 20000 10.1.0.2 46000 --seconds inf"),
+    (LATCH, "follow 20000 10.1.0.2 0"), (LATCH, "follow 19999 10.1.0.2 46000"), (LATCH, "leave"),
     (SCRIPT, "--call -1 --bye"), (SCRIPT, "--call 4294967296 --bye"), (SCRIPT, "--call 01x --bye"), (SCRIPT, "--tick -5"),
     (SCRIPT, "--tick 2085978496000"), (SCRIPT, "--manual a b c d"), (SCRIPT, f"--manual 1.2.3.4:5 1.2.3.4:65536 {KEY} {OTHER}"),
     (SCRIPT, f"--manual 1.2.3.4:5 1.2.3.4:6 {KEY} {OTHER[:-2]}"),
