@@ -281,9 +281,11 @@ def request(command, name, text, tags=("a", ""), **more):
 
 
 def held_calls(program):
-    """A call that is held has a sign of life by a rejected offer, which spends no key, until the hold is over; one that
-    isn't has none."""
-    with book_of(program, hold=6.0) as (book, driver, told):
+    """A call that is held has a sign of life by a rejected offer, which spends no key, until the hold is over, also beside an
+    offer that went past the gateway and has no answer; one that isn't has none."""
+    def rejected():
+        return sum(line[:2] == ("reject", "1") for line in told)
+    with book_of(program, hold=8.0) as (book, driver, told):
         for name in ("held", "talks"):
             text = secure(crypto=KEEPS if name == "held" else key())
             book.offer(request("offer", name, text, **{"transport-protocol": "RTP/AVP"}))
@@ -294,8 +296,10 @@ def held_calls(program):
         quiet = secure("a=sendonly", crypto=KEEPS)
         book.offer(request("offer", "held", quiet, ("a", "b"), **{"transport-protocol": "RTP/AVP"}))
         book.answer(request("answer", "held", plain("a=recvonly"), ("a", "b")))
-        wait_until(lambda: sum(line[:2] == ("reject", "1") for line in told) >= 3, "three signs of life")
-        time.sleep(7)
+        wait_until(lambda: rejected() >= 2, "two signs of life")
+        book.offer(request("offer", "held", secure(crypto=KEEPS), ("a", "b"), **{"transport-protocol": "RTP/AVP"}))
+        wait_until(lambda: rejected() >= 5, "three more beside an open offer")
+        time.sleep(9)
         signs = [line[:2] for line in told[first:]]
         assert set(signs) == {("offer-plain", "1"), ("reject", "1"), ("bye", "0")}, signs
         rest = len(told)
@@ -305,7 +309,7 @@ def held_calls(program):
         book.offer(request("offer", "held", secure(crypto=KEEPS), ("a", "b"), **{"transport-protocol": "RTP/AVP"}))
         book.answer(request("answer", "held", plain(), ("a", "b")))
         assert len(told) == rest, "resumed past the gateway"
-        return f"{sum(line[0] == 'reject' for line in told)} signs in six seconds, no key spent"
+        return f"{rejected()} signs in eight seconds, no key spent"
 
 
 # ---- signals of the system

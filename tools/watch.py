@@ -20,6 +20,7 @@ import shutil
 import signal
 import subprocess
 import sys
+import threading
 import time
 from pathlib import Path
 
@@ -58,16 +59,19 @@ class Arrived:
     AGE = 0.5
 
     def __init__(self, sets=read_sets):
-        self.sets, self.found, self.until = sets, {}, 0.0
+        self.sets, self.found, self.until, self.lock = sets, {}, 0.0, threading.Lock()
 
     def __call__(self, ports):
-        if time.monotonic() >= self.until:
-            try:
-                self.found = self.sets().get("arrived", {})
-            except Fault:
-                self.found = {}
-            self.until = time.monotonic() + self.AGE
-        return {port: self.found[port][:2] for port in ports if port in self.found}
+        # Of many that ask at once one reads.
+        with self.lock:
+            if time.monotonic() >= self.until:
+                try:
+                    self.found = self.sets().get("arrived", {})
+                except Fault:
+                    self.found = {}
+                self.until = time.monotonic() + self.AGE
+            found = self.found
+        return {port: found[port][:2] for port in ports if port in found}
 
 
 def read_sockets():
