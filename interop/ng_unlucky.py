@@ -8,6 +8,7 @@ left of calls that came to nothing, and at calls that are held.
 It needs what interop/ng_protocol.py needs.
 """
 import contextlib
+import json
 import os
 import re
 import resource
@@ -258,6 +259,29 @@ def only_live_ones_are_told(program):
     return "and not one that rings"
 
 
+def a_slow_server_is_told_of_all(program, calls=40):
+    """Where Kamailio takes its time, what a daemon that is ended couldn't tell is told by the next one."""
+    with tempfile.TemporaryDirectory() as folder, tells_kamailio() as url:
+        words, wanted = ["--tell", url, "--calls", f"{folder}/calls"], {f"call {number}" for number in range(calls)}
+        Kamailio.seconds = 4
+        try:
+            with running(program, *words) as (daemon, server):
+                for name in wanted:
+                    call(server, name)
+                daemon.process.send_signal(signal.SIGTERM)
+                assert daemon.has_said("hasn't been told of"), daemon.lines
+                assert daemon.ends(None) == 0
+        finally:
+            Kamailio.seconds = 0
+        first = len(Kamailio.told)
+        assert first > 3, "it is told of one behind another"
+        with running(program, *words) as (_, server):
+            wait_until(lambda: {told[1] for told in Kamailio.told} == wanted, "the rest")
+            assert server.asks("list")[b"calls"] == []
+        assert json.loads(Path(words[-1]).read_text()) == []
+    return f"{first} of {calls} by the first, and the rest by the next"
+
+
 @contextlib.contextmanager
 def book_of(program, hold):
     """A book over a gateway, whose calls that are held need a sign of life twice a second, and the lines that it told."""
@@ -424,8 +448,8 @@ def a_late_offer_is_deleted(_):
 
 ALL = (
     odd_letters, nobody_reads, full_disks, unknown_commands, in_their_order, a_fault_of_its_own, answers_grow_old,
-    optional_encryption, one_medium_holds, nothing_is_left, only_live_ones_are_told, held_calls, signals_to_all,
-    signals_at_once, logs_are_begun_anew, has_a_priority, a_late_offer_is_deleted,
+    optional_encryption, one_medium_holds, nothing_is_left, only_live_ones_are_told, a_slow_server_is_told_of_all,
+    held_calls, signals_to_all, signals_at_once, logs_are_begun_anew, has_a_priority, a_late_offer_is_deleted,
 )
 
 

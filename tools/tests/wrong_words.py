@@ -129,6 +129,23 @@ def bounded(folder):
     check("one that comes later knows the call", list(later.by_slot) == [0] and later.by_slot[0].live == 0)
 
 
+def cut(folder):
+    """Where it can't be moved it is cut, and its bound is kept; what another daemon writes stays until it has a line itself."""
+    path, said = folder / "stays", []
+    (folder / "stays.1").mkdir()
+    log = OutcomeLog(path, 60, said.append)
+    log.write(b"made 1 0 1\n")
+    for _ in range(100):
+        log.write(b"drop 20000 Short\n")
+    lines = path.read_text().splitlines()
+    check("one that can't be moved is cut", lines[0] == "there 1 0 1 offered" and len(lines) < 5)
+    check("and told once", len(said) == 1 and "can't be moved" in said[0])
+    second = OutcomeLog(path)
+    check("one without a line leaves it", path.read_text().splitlines() == lines)
+    second.write(b"srtpgw 1\n")
+    check("and begins it with its first", path.read_text() == "srtpgw 1\n")
+
+
 def main():
     with tempfile.TemporaryDirectory() as name:
         folder = Path(name)
@@ -137,6 +154,7 @@ def main():
         told(text)
         programs(folder)
         bounded(folder)
+        cut(folder)
     bad = [what for what, holds in CLAIMS if not holds]
     print(*(f"NOT SO: {what}" for what in bad), sep="\n", end="\n" * bool(bad))
     print(f"wrong words: {len(CLAIMS)} looked at, {len(bad)} are otherwise")
