@@ -146,6 +146,20 @@ def cut(folder):
     check("and begins it with its first", path.read_text() == "srtpgw 1\n")
 
 
+# ---- a file that can't be written
+
+def unwritten(folder):
+    """A look that can't be written is told in one line, and the next one is looked at all the same."""
+    words = f"--prometheus --every 0.1 --looks 2 --to {folder}/look"
+    run = ran(WATCH, words, None)
+    check("looks that are written", (run.returncode, run.stderr) == (0, b"") and (folder / "look").exists())
+    (folder / "look.new").mkdir()
+    run = ran(WATCH, words, None)
+    said = run.stderr.decode().splitlines()
+    check(f"looks that aren't: {run.returncode}, {said}", run.returncode == 1 and len(said) == 2
+          and all(line.startswith(f"watch.py: {folder}/look isn't written: ") for line in said))
+
+
 def main():
     with tempfile.TemporaryDirectory() as name:
         folder = Path(name)
@@ -155,6 +169,7 @@ def main():
         programs(folder)
         bounded(folder)
         cut(folder)
+        unwritten(folder)
     bad = [what for what, holds in CLAIMS if not holds]
     print(*(f"NOT SO: {what}" for what in bad), sep="\n", end="\n" * bool(bad))
     print(f"wrong words: {len(CLAIMS)} looked at, {len(bad)} are otherwise")
