@@ -336,6 +336,9 @@ class Call:
             self.media.agrees(request.body)
         elif method in ("BYE", "CANCEL"):
             self.ended_at = time.monotonic()
+            # As over a network: Kamailio 5.6.3, which sends BYE to both sides, leaves out the second one where the first is
+            # answered before.
+            time.sleep(0.02)
             self.replies(request, sender, "200 OK")
             if method == "CANCEL" and self.waiting:
                 self.replies(self.waiting, sender, "487 Request Terminated")
