@@ -15,7 +15,6 @@ import socket
 import subprocess
 import sys
 import tempfile
-import threading
 import time
 import types
 import urllib.error
@@ -172,29 +171,20 @@ def by_http():
 
 
 def slow_clients():
-    """Clients of whom an octet comes now and then: one too many is let go, and the others keep nobody from it, nor the site
-    from its end."""
-    site, over = metrics.Site(("127.0.0.1", 0), lambda: "a 1\n", print), threading.Event()
-    at, ends = ("127.0.0.1", site.server_port), []
-
-    def drips():
-        while not over.wait(metrics.PATIENCE / 4):
-            for end in list(ends):
-                with contextlib.suppress(OSError):
-                    end.send(b"G")
-    threading.Thread(target=drips, daemon=True).start()
-    for _ in range(metrics.CLIENTS_MOST + 1):
-        ends.append(socket.create_connection(at, 30))
-    time.sleep(1.5 * metrics.PATIENCE)
-    check("one too many is let go", [is_let_go(end) for end in ends] == [False] * metrics.CLIENTS_MOST + [True])
-    ends.pop(0).close()
+    """Clients that take their time: one too many is let go, and the others keep nobody from it, nor the site from its end."""
+    kept, metrics.Page.timeout = metrics.Page.timeout, 300
+    site = metrics.Site(("127.0.0.1", 0), lambda: "a 1\n", print)
+    at = "127.0.0.1", site.server_port
+    ends = [socket.create_connection(at, 30) for _ in range(metrics.CLIENTS_MOST + 1)]
+    check("one too many is let go", until(lambda: [is_let_go(end) for end in ends].count(True) == 1))
+    next(end for end in ends if not is_let_go(end)).close()
     check("beside slow clients", until(lambda: is_answered("http://%s:%d/metrics" % at)))
     began = time.monotonic()
     site.close()
     check("the end waits for none", time.monotonic() - began < 10)
-    over.set()
     for end in ends:
         end.close()
+    metrics.Page.timeout = kept
 
 
 def is_let_go(end):
@@ -263,9 +253,11 @@ class Nft:
 
 def until(holds):
     end = time.monotonic() + 60
-    while not holds() and time.monotonic() < end:
+    while not holds():
+        if time.monotonic() > end:
+            return False
         time.sleep(0.02)
-    return holds()
+    return True
 
 
 def latched():
