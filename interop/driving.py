@@ -332,6 +332,24 @@ def it_drains(program):
     return "new calls are refused, the others go on, the process ends with the last one, and the next one follows"
 
 
+def it_drains_between_two(program):
+    """a drain while the next process begins"""
+    opener, opened = Program(program), []
+    with driving(opener, restarts=True) as (driver, _, _):
+        opens = opener.open
+
+        def opens_behind_a_drain(patience):
+            driver.restarts = False
+            driver.drain()
+            opened.append(opens(patience))
+            return opened[0]
+        opener.open = opens_behind_a_drain
+        os.kill(driver.gateway.pid, signal.SIGKILL)
+        require(driver.drained.wait(PATIENCE), "the next process goes on")
+        require(not is_there(opened[0].pid), "the next process is still there")
+    return "ends that process, and none follows"
+
+
 def close_waits_for_drops(program):
     """drops that are told at the end"""
     with driving(Program([sys.executable, HERE / "slowed.py", "drops", "0", program])) as (driver, _, _):
@@ -773,7 +791,7 @@ def an_end_parts(program):
 
 CHECKS = [
     counts_from_the_start, each_has_its_own, a_late_outcome_ends_the_process, calls_are_told_and_made_anew, it_drains,
-    close_waits_for_drops, fields_are_fields, ports_and_answers_are_looked_at, sockets_overflow, telephones_have_their_ways,
+    it_drains_between_two, close_waits_for_drops, fields_are_fields, ports_and_answers_are_looked_at, sockets_overflow, telephones_have_their_ways,
     keys_are_told_again, a_rejected_offer_spends_nothing, the_log_has_no_keys, outcomes_come_in_parts, whose_refusal,
     many_signals_wait, an_answer_may_be_late, a_stall_moves_nothing, signals_wait_little, a_long_tick_comes_before_the_signal,
     what_waits_is_told, signals_of_the_system, a_unit_keeps_it, calls_are_joined, an_end_parts,

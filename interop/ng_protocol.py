@@ -554,16 +554,19 @@ def drawn(count, seed=7):
 
 
 class Kamailio(http.server.BaseHTTPRequestHandler):
-    """What is told of calls that have ended: the lists of Call-ID and tags."""
+    """What is told of calls that have ended: the lists of Call-ID and tags. It answers behind some seconds."""
 
-    told = []
+    told, seconds = [], 0
 
     def do_POST(self):
         asked = json.loads(self.rfile.read(int(self.headers["Content-Length"])))
         self.told.append([asked["method"], *asked["params"]])
-        self.send_response(200)
-        self.end_headers()
-        self.wfile.write(json.dumps({"jsonrpc": "2.0", "id": asked["id"], "result": {}}).encode())
+        time.sleep(self.seconds)
+        # Who has asked may be there no more.
+        with contextlib.suppress(OSError):
+            self.send_response(200)
+            self.end_headers()
+            self.wfile.write(json.dumps({"jsonrpc": "2.0", "id": asked["id"], "result": {}}).encode())
 
     def log_message(self, *_):
         pass

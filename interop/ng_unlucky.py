@@ -8,6 +8,7 @@ left of calls that came to nothing, and at calls that are held.
 It needs what interop/ng_protocol.py needs.
 """
 import contextlib
+import json
 import os
 import re
 import resource
@@ -258,6 +259,29 @@ def only_live_ones_are_told(program):
     return "and not one that rings"
 
 
+def a_slow_server_is_told_of_all(program, calls=40):
+    """Where Kamailio takes its time, what a daemon that is ended couldn't tell is told by the next one."""
+    with tempfile.TemporaryDirectory() as folder, tells_kamailio() as url:
+        words, wanted = ["--tell", url, "--calls", f"{folder}/calls"], {f"call {number}" for number in range(calls)}
+        Kamailio.seconds = 4
+        try:
+            with running(program, *words) as (daemon, server):
+                for name in wanted:
+                    call(server, name)
+                daemon.process.send_signal(signal.SIGTERM)
+                assert daemon.has_said("hasn't been told of"), daemon.lines
+                assert daemon.ends(None) == 0
+        finally:
+            Kamailio.seconds = 0
+        first = len(Kamailio.told)
+        assert first > 3, "it is told of one behind another"
+        with running(program, *words) as (_, server):
+            wait_until(lambda: {told[1] for told in Kamailio.told} == wanted, "the rest")
+            assert server.asks("list")[b"calls"] == []
+        assert json.loads(Path(words[-1]).read_text()) == []
+    return f"{first} of {calls} by the first, and the rest by the next"
+
+
 @contextlib.contextmanager
 def book_of(program, hold):
     """A book over a gateway, whose calls that are held need a sign of life twice a second, and the lines that it told."""
@@ -281,9 +305,11 @@ def request(command, name, text, tags=("a", ""), **more):
 
 
 def held_calls(program):
-    """A call that is held has a sign of life by a rejected offer, which spends no key, until the hold is over; one that
-    isn't has none."""
-    with book_of(program, hold=6.0) as (book, driver, told):
+    """A call that is held has a sign of life by a rejected offer, which spends no key, until the hold is over, also beside an
+    offer that went past the gateway and has no answer; one that isn't has none."""
+    def rejected():
+        return sum(line[:2] == ("reject", "1") for line in told)
+    with book_of(program, hold=8.0) as (book, driver, told):
         for name in ("held", "talks"):
             text = secure(crypto=KEEPS if name == "held" else key())
             book.offer(request("offer", name, text, **{"transport-protocol": "RTP/AVP"}))
@@ -294,8 +320,10 @@ def held_calls(program):
         quiet = secure("a=sendonly", crypto=KEEPS)
         book.offer(request("offer", "held", quiet, ("a", "b"), **{"transport-protocol": "RTP/AVP"}))
         book.answer(request("answer", "held", plain("a=recvonly"), ("a", "b")))
-        wait_until(lambda: sum(line[:2] == ("reject", "1") for line in told) >= 3, "three signs of life")
-        time.sleep(7)
+        wait_until(lambda: rejected() >= 2, "two signs of life")
+        book.offer(request("offer", "held", secure(crypto=KEEPS), ("a", "b"), **{"transport-protocol": "RTP/AVP"}))
+        wait_until(lambda: rejected() >= 5, "three more beside an open offer")
+        time.sleep(9)
         signs = [line[:2] for line in told[first:]]
         assert set(signs) == {("offer-plain", "1"), ("reject", "1"), ("bye", "0")}, signs
         rest = len(told)
@@ -305,7 +333,7 @@ def held_calls(program):
         book.offer(request("offer", "held", secure(crypto=KEEPS), ("a", "b"), **{"transport-protocol": "RTP/AVP"}))
         book.answer(request("answer", "held", plain(), ("a", "b")))
         assert len(told) == rest, "resumed past the gateway"
-        return f"{sum(line[0] == 'reject' for line in told)} signs in six seconds, no key spent"
+        return f"{rejected()} signs in eight seconds, no key spent"
 
 
 # ---- signals of the system
@@ -339,6 +367,26 @@ def signals_to_all(program):
         assert daemon.ends(None) == 0
         assert Kamailio.told == [["dlg.terminate_dlg", "one", "a", "b"]], Kamailio.told
     return "it drains with its call, and ends with status 0 and a BYE"
+
+
+def signals_at_once(program):
+    """A signal that comes as soon as systemd is told that the daemon is ready is obeyed as any later one."""
+    numbers = signal.SIGTERM, signal.SIGINT, signal.SIGUSR1, signal.SIGHUP
+    kept, tells = [signal.getsignal(number) for number in numbers], ng_main.ready.tell
+
+    def told(**said):
+        if "READY" in said:
+            assert all(callable(signal.getsignal(number)) for number in numbers), "it is ready, and takes no signals"
+            os.kill(os.getpid(), signal.SIGTERM)
+    ng_main.ready.tell = told
+    try:
+        given = ng_main.words_of().parse_args(["--listen", "%s:%d" % NG, "--program", program, "--priority", "0"])
+        assert ng_main.run(given, lambda line: None) == 0
+    finally:
+        ng_main.ready.tell = tells
+        for number, handler in zip(numbers, kept):
+            signal.signal(number, handler)
+    return "it ends with status 0"
 
 
 def logs_are_begun_anew(program):
@@ -384,17 +432,24 @@ def has_a_priority(program):
 
 
 def a_late_offer_is_deleted(_):
-    """Where an offer isn't taken, or not in time, the configuration has the gateway forget it."""
-    text = (TOP / "examples/kamailio/kamailio.cfg").read_text()
-    blocks = re.findall(r"if \(!rtpengine_(?:offer|answer)\(\"[^\"]*\"\)\) \{(.*?)\n\t*\}", text, re.S)
-    assert len(blocks) >= 4 and all(re.match(r"(\s*#.*\n)*\s*rtpengine_delete\(\);", block) for block in blocks), blocks
-    return f"at {len(blocks)} places"
+    """Where a first offer isn't taken, or not in time, or is cancelled, the configuration has the gateway forget it. One within
+    a call ends no call, and an answer that isn't taken does."""
+    text = re.sub(r"\n\s*#.*", "", (TOP / "examples/kamailio/kamailio.cfg").read_text())
+    offer, *answers = re.findall(r"if \(!rtpengine_(?:offer|answer)\(\"[^\"]*\"\)\) \{\s*(.*?)\n\t*\}", text, re.S)
+    cancelled = re.findall(r"if \(is_method\(\"CANCEL\"\)\) \{\s*(.*?)\n", text)
+    for block in (offer, *cancelled):
+        assert block.startswith("if (!has_totag()) rtpengine_delete();"), block
+    for block in answers:
+        assert block.startswith("rtpengine_delete();"), block
+    assert 'if (is_method("UPDATE")) dlg_bye("all");' in answers[0], answers[0]
+    assert (len(cancelled), len(answers)) == (1, 3), (cancelled, answers)
+    return f"at {len(answers) + 2} places"
 
 
 ALL = (
     odd_letters, nobody_reads, full_disks, unknown_commands, in_their_order, a_fault_of_its_own, answers_grow_old,
-    optional_encryption, one_medium_holds, nothing_is_left, only_live_ones_are_told, held_calls, signals_to_all,
-    logs_are_begun_anew, has_a_priority, a_late_offer_is_deleted,
+    optional_encryption, one_medium_holds, nothing_is_left, only_live_ones_are_told, a_slow_server_is_told_of_all,
+    held_calls, signals_to_all, signals_at_once, logs_are_begun_anew, has_a_priority, a_late_offer_is_deleted,
 )
 
 

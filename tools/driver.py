@@ -366,13 +366,16 @@ class Driver:
                 self.over.wait(AGAIN)
                 continue
             with self.lock:
-                self.gateway, self.gone, self.draining = gateway, None, False
-                self.spent.clear()
-                self.open_keys.clear()
-            if self.over.is_set():
+                # Since it was begun it may have become one that isn't to follow: `drain`, with `restarts` set to False.
+                follows = self.restarts
+                if follows:
+                    self.gateway, self.gone, self.draining = gateway, None, False
+                    self.spent.clear()
+                    self.open_keys.clear()
+            if self.over.is_set() or not follows:
                 # `close` may have ended the one before. What was told to this one is answered by its end.
                 gateway.close()
-            return True
+            return follows
         return False
 
     def _warn(self, text):

@@ -267,6 +267,8 @@ class Gateway:
         # each with its moment, but those that a later one undercuts; the earliest; the tick that reaches farthest.
         self.probes, self.starts = collections.deque(), collections.deque()
         self.began, self.last = time.time(), 0
+        # When this process was begun, whatever answers tell of its clock.
+        self.started = self.began
         self.ends = opener.open(patience)
         self.pid, self.files = self.ends.pid, self.ends.files
         self.reader = threading.Thread(target=self._read, daemon=True)

@@ -22,6 +22,7 @@ import threading
 import time
 
 from counters import Fault, PORTS, is_port
+import words
 
 TABLE = "srtpgw_latch"
 # For how many seconds behind an answer an address is learnt.
@@ -173,6 +174,17 @@ class Latch:
                     self.look(self.found())
             except Fault as fault:
                 self.log(f"what telephones send from isn't learnt: {fault}")
+                self.begin_anew(legs)
+
+    def begin_anew(self, legs):
+        """Loads the rules again, which somebody may have taken away, and wants all that was followed and `legs`, which
+        couldn't be changed."""
+        time.sleep(LOOK)
+        with contextlib.suppress(Fault):
+            self.run(RULES)
+        wanted, self.legs, self.told = {**self.legs, **legs}, {}, set()
+        with self.changed:
+            self.waiting = {**wanted, **self.waiting}
 
     def found(self):
         return elements(self.run("", "-j", "list", "table", "ip", TABLE))
@@ -248,8 +260,8 @@ def port(text):
     return int(text)
 
 
-def words():
-    parser = argparse.ArgumentParser(description="learns where telephones behind address translation send from")
+def words_of():
+    parser = words.Parser(description="learns where telephones behind address translation send from")
     does = parser.add_subparsers(dest="does", required=True)
     for name, says in (("up", "loads the rules, anew where they are there"), ("down", "takes them away"),
                        ("show", "what was learnt, and which packets come from elsewhere")):
@@ -257,9 +269,9 @@ def words():
     follow = does.add_parser("follow", help="learns at a port of the gateway for some seconds")
     follow.add_argument("port", type=port)
     follow.add_argument("address", type=ipaddress.IPv4Address, help="the telephone's address, as its text says")
-    follow.add_argument("to", type=int, help="and its port")
+    follow.add_argument("to", type=words.number(1, 65_535), help="and its port")
     follow.add_argument("--any", action="store_true", help="learns from any address")
-    follow.add_argument("--seconds", type=float, default=SECONDS, help=f"for so many seconds ({SECONDS:g})")
+    follow.add_argument("--seconds", type=words.seconds(0.1, 3_600), default=SECONDS, help=f"for so many seconds ({SECONDS:g})")
     does.add_parser("leave", help="forgets a port of the gateway").add_argument("port", type=port)
     return parser
 
@@ -281,7 +293,7 @@ def show():
 
 
 def main():
-    given = words().parse_args()
+    given = words_of().parse_args()
     try:
         if given.does in ("up", "down"):
             nft(RULES if given.does == "up" else NO_RULES)

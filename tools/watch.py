@@ -20,6 +20,7 @@ import shutil
 import signal
 import subprocess
 import sys
+import threading
 import time
 from pathlib import Path
 
@@ -58,16 +59,19 @@ class Arrived:
     AGE = 0.5
 
     def __init__(self, sets=read_sets):
-        self.sets, self.found, self.until = sets, {}, 0.0
+        self.sets, self.found, self.until, self.lock = sets, {}, 0.0, threading.Lock()
 
     def __call__(self, ports):
-        if time.monotonic() >= self.until:
-            try:
-                self.found = self.sets().get("arrived", {})
-            except Fault:
-                self.found = {}
-            self.until = time.monotonic() + self.AGE
-        return {port: self.found[port][:2] for port in ports if port in self.found}
+        # Of many that ask at once one reads.
+        with self.lock:
+            if time.monotonic() >= self.until:
+                try:
+                    self.found = self.sets().get("arrived", {})
+                except Fault:
+                    self.found = {}
+                self.until = time.monotonic() + self.AGE
+            found = self.found
+        return {port: found[port][:2] for port in ports if port in found}
 
 
 def read_sockets():
@@ -375,16 +379,25 @@ def text_of(view, given):
 
 
 def put(text, given):
-    """Prints a look, or puts it in its file's place."""
+    """Prints a look, or puts it in its file's place. Whether that could be done."""
     if given.to:
-        beside = Path(f"{given.to}.new")
-        beside.write_text(text, encoding="utf-8")
-        os.replace(beside, given.to)
-        return
+        return put_in_place(text, given.to)
     if not given.json and not given.prometheus and sys.stdout.isatty():
         text = "\x1b[H\x1b[2J" + fitted(text, shutil.get_terminal_size().lines - 1)
     sys.stdout.write(text)
     sys.stdout.flush()
+    return True
+
+
+def put_in_place(text, path):
+    beside = Path(f"{path}.new")
+    try:
+        beside.write_text(text, encoding="utf-8")
+        os.replace(beside, path)
+    except OSError as fault:
+        print(f"watch.py: {path} isn't written: {fault}", file=sys.stderr, flush=True)
+        return False
+    return True
 
 
 def fitted(text, most):
@@ -403,12 +416,14 @@ def main():
     watch, looks = Watch(given.outcomes, given.after), 0
     with contextlib.suppress(KeyboardInterrupt):
         while True:
-            put(text_of(watch.look(), given), given)
+            is_put = put(text_of(watch.look(), given), given)
             looks += 1
             if every is None or looks == given.looks:
-                return
+                return 0 if is_put else 1
+            # The next look may find room.
             time.sleep(every)
+    return 0
 
 
 if __name__ == "__main__":
-    main()
+    sys.exit(main())

@@ -131,13 +131,10 @@ def is_cancelled(folder):
 
 def is_refused(alice, media):
     """rtpengine lets such a text by."""
-    media.text = lambda *_: Media.text(media).replace(b"a=crypto:1", b"a=crypto:none")
-    try:
-        alice.calls("henry", media)
-    except Refused as fault:
-        print(f"the one without a key: {fault}")
-        return fault.args[0] == 488
-    return False
+    without_a_key(media)
+    status = status_of(lambda: alice.calls("henry", media))
+    print(f"the one without a key: {status}")
+    return status == 488
 
 
 def has_early_media(folder):
@@ -201,20 +198,60 @@ def offers_late(folder):
     return good and ended == 200 and (len(media.openings) == 3 or NAME == "rtpengine")
 
 
-def is_answered_badly(folder):
-    """The called telephone answers without a key, so the gateway refuses its text: both have BYE behind the ACK."""
-    media = Media((HOST, 26_032), master())
+def without_a_key(media):
+    """Has its texts have no key, so the gateway refuses them."""
     media.text = lambda *_: Media.text(media).replace(b"a=crypto:1", b"a=crypto:none")
+
+
+def is_answered_badly(folder):
+    """The called telephone answers without a key, so the gateway refuses its text: both have BYE, behind the ACK of an INVITE
+    and at once behind an UPDATE."""
+    media, own = Media((HOST, 26_032), master()), [Media((HOST, 26_030)), Media((HOST, 26_034))]
     kate, louis = Telephone("kate", ALICE, PROXY, lambda: media), Telephone("louis", BOB, PROXY)
     registers("kate", ALICE, PROXY)
-    own = Media((HOST, 26_030))
-    call = louis.calls("kate", own)
-    for one, name in ((call, "the caller"), (kate.came[0], "the called one")):
-        wait_until(one.ended.is_set, what=f"BYE at {name}")
-    print("both had BYE")
-    for one in (kate, louis, media, own):
+    updated = louis.calls("kate", own[0])
+    without_a_key(media)
+    updated.media = own[1]
+    updated.updates()
+    for call in (updated, louis.calls("kate", own[0])):
+        for one, name in ((call, "the caller"), (kate.by_id[call.id], "the called one")):
+            wait_until(one.ended.is_set, what=f"BYE at {name}")
+    print("both had BYE, twice")
+    for one in (kate, louis, media, *own):
         one.close()
     return True
+
+
+def is_refused_within(folder):
+    """Within a call an offer is cancelled, and a re-INVITE and an UPDATE without a key aren't taken: it goes on each time."""
+    plain, media = Media((HOST, 26_072)), Media((HOST, 26_070), master())
+    quinn = Telephone("quinn", BOB, PROXY, lambda: plain)
+    registers("quinn", BOB, PROXY)
+    rose = Telephone("rose", ALICE, PROXY)
+    call = rose.calls("quinn", media)
+    far = quinn.came[0]
+    good = talks(call, far, 1)
+    far.media = None
+    good &= call.cancels(100) == 487
+    far.media = plain
+    good &= talks(call, far, 2)
+    without_a_key(media)
+    for place, offers in enumerate((call.offers, call.updates), 3):
+        good &= status_of(lambda: offers(key=master())) == 488
+        good &= talks(call, far, place)
+    ended = call.ends()
+    for one in (quinn, rose, media, plain):
+        one.close()
+    return good and ended == 200
+
+
+def status_of(offers):
+    """By what an offer is refused."""
+    try:
+        offers()
+    except Refused as fault:
+        return fault.args[0]
+    return 200
 
 
 def forty(folder):
@@ -251,7 +288,7 @@ def together(work, items):
 
 NAME = "rtpengine" if "rtpengine" in sys.argv[1:] else "srtpgw"
 SCENES = [calls_an_echo, is_called, is_held, new_keys, has_early_media, offers_late, is_cancelled]
-SCENES += [is_answered_badly] * (NAME == "srtpgw") + [forty]
+SCENES += [is_answered_badly, is_refused_within] * (NAME == "srtpgw") + [forty]
 
 
 def version(*words):
@@ -291,7 +328,8 @@ def played(programs, scenes, begun=lambda gateway: None):
 
 
 def main():
-    return played((("kamailio", "-v"), ("baresip", "-h"), ("sipp", "-v"), ("rtpengine", "--version")), SCENES)
+    programs = [("kamailio", "-v"), ("baresip", "-h"), ("sipp", "-v")] + [("rtpengine", "--version")] * (NAME == "rtpengine")
+    return played(programs, SCENES)
 
 
 if __name__ == "__main__":

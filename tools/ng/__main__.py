@@ -43,27 +43,34 @@ def main():
 def run(given, log):
     take_priority(given.priority, log)
     telling = Telling(given.tell, log)
+    kept = Kept(given.calls, telling, log)
     try:
-        outcomes = OutcomeLog(given.outcomes, given.outcomes_most) if given.outcomes else None
-        book = begun(given, log, telling, outcomes)
+        outcomes = OutcomeLog(given.outcomes, given.outcomes_most, log) if given.outcomes else None
+        book = begun(given, log, telling, kept, outcomes)
         server = Server(book, given.listen, log)
+        take_signals(server, book, outcomes, log)
         stands = beside.Beside(given, book, server, log)
     except (Gone, Taken, Fault, OSError) as fault:
         log(f"it can't begin: {fault}")
         # What the daemon before it has left may have to be told yet.
-        telling.close()
+        tell_the_rest(telling, kept, log)
         return 1
+    log(f"answers NG requests at {given.listen[0]}:{given.listen[1]}")
+    ready.tell(READY=1, STATUS="takes calls")
+    server.serve(book.driver.drained.is_set)
+    ready.tell(STOPPING=1, STATUS="ends")
+    try:
+        return ended(book, telling, kept, log)
+    finally:
+        stands.close()
+
+
+def take_signals(server, book, outcomes, log):
+    """Has the system's signals do what they are for, from now on."""
     for number in (signal.SIGTERM, signal.SIGINT):
         signal.signal(number, lambda *_: server.close())
     aside(signal.SIGUSR1, drain, book, log)
     aside(signal.SIGHUP, begin_anew, outcomes, log)
-    log(f"answers NG requests at {given.listen[0]}:{given.listen[1]}")
-    server.serve(book.driver.drained.is_set)
-    ready.tell(STOPPING=1, STATUS="ends")
-    try:
-        return ended(book, telling, log)
-    finally:
-        stands.close()
 
 
 def aside(number, work, *given):
@@ -82,11 +89,10 @@ def take_priority(priority, log):
             "CPUSchedulingPolicy=rr or LimitRTPRIO= of a unit gives it one")
 
 
-def begun(given, log, telling, outcomes):
+def begun(given, log, telling, kept, outcomes):
     """The book of a gateway that has been started, and which tells of what a daemon before it has left."""
     program = Program(given.program, muxes=given.mux, bridges=not given.mux)
     driver = Driver(program, restarts=True, warn=log, bounds=Bounds(**dict(given.bound)), log=outcomes, step=given.step)
-    kept = Kept(given.calls, log)
     for told in kept.left():
         log(f"{told.id[:128]!r} has ended with the daemon before this one")
         telling.tell(told, "gone")
@@ -118,17 +124,26 @@ def drain(book, log):
     book.driver.drain()
 
 
-def ended(book, telling, log):
+def ended(book, telling, kept, log):
     """Ends the calls that are left, and tells of them; 0 where all went well."""
     left = book.all()
     with concurrent.futures.ThreadPoolExecutor(WORKERS) as pool:
         list(pool.map(lambda call: book.ended(call, "ended with the daemon"), left))
     for call in left:
         telling.tell(dialog(call), "stopped")
-    telling.close()
+    tell_the_rest(telling, kept, log)
     status = book.driver.close()
     log(sentences.status(status) if status is not None else "the gateway has ended")
     return 0 if status == 0 else 1
+
+
+def tell_the_rest(telling, kept, log):
+    """Waits until the SIP server is told of all calls that have ended, or some seconds; what is left is kept."""
+    telling.close()
+    kept.keep(lambda: [])
+    if telling.left:
+        more = ", which the next daemon tells of" if kept.path else ""
+        log(f"the SIP server hasn't been told of {len(telling.left)} calls that have ended{more}")
 
 
 def read_words():

@@ -1,10 +1,10 @@
 """What stands beside the daemon's calls where its words ask for it: metrics for Prometheus, and addresses that are learnt in
-front of the gateway. It tells systemd that the daemon is ready, too.
+front of the gateway.
 """
 
 import words
 from latch import Latch, SECONDS
-from ng import metrics, ready
+from ng import metrics
 from ng.following import Following
 
 
@@ -24,13 +24,13 @@ class Beside:
     def __init__(self, given, book, server, log):
         self.meter, self.latch, self.follows, self.site = metrics.Meter(book), None, None, None
         book.left, server.answered = self.left, self.meter.asked
+        # Before the rules, which would stay where its port is taken.
+        if given.metrics:
+            self.site = metrics.Site(given.metrics, lambda: metrics.text_of(book, self.meter, server.refused), log)
         if given.latch:
             self.latch = Latch(log, given.latch_seconds, given.latch == "any")
             self.follows = Following(self.latch)
             book.settled = self.follows.settled
-        if given.metrics:
-            self.site = metrics.Site(given.metrics, lambda: metrics.text_of(book, self.meter, server.refused), log)
-        ready.tell(READY=1, STATUS="takes calls")
 
     def left(self, call):
         self.meter.left(call)
@@ -38,6 +38,6 @@ class Beside:
             self.follows.left(call)
 
     def close(self):
-        for one in (self.site, self.latch):
+        for one in (self.latch, self.site):
             if one:
                 one.close()

@@ -276,8 +276,9 @@ class Book:
 
     def give_sign(self, call):
         """Has the gateway take a held call for alive: an offer that is rejected, by which no key is spent. It stands in
-        the order of the call's requests."""
-        if call.open or not self.knows(call) or not self.needs_sign(call, time.monotonic()):
+        the order of the call's requests. Of an open offer that went past it the gateway knows nothing."""
+        is_open = call.open and not call.open.passes
+        if is_open or not self.knows(call) or not self.needs_sign(call, time.monotonic()):
             return
         call.alive = time.monotonic()
         try:
@@ -351,12 +352,16 @@ class Book:
 
     def report(self, call):
         """What is known of a call's packets. Calls before it had the same ports."""
-        arrived = self.arrived(call.ports)
-        before = {port: call.arrived_before.get(port, (0, 0)) for port in arrived}
-        arrived = {port: tuple(map(int.__sub__, counts, before[port])) for port, counts in arrived.items()}
+        arrived = {port: since(counts, call.arrived_before.get(port, (0, 0)))
+                   for port, counts in self.arrived(call.ports).items()}
         dropped, lost = collections.Counter(counted(self.driver.drops, call)), collections.Counter(counted(self.driver.lost, call))
         dropped.subtract(call.dropped_before), lost.subtract(call.lost_before)
         return Report(call, +dropped, arrived, +lost)
+
+
+def since(counts, before):
+    """What was counted since: all of it where the counters began anew, as when nftables is loaded again."""
+    return tuple(counts) if any(map(int.__lt__, counts, before)) else tuple(map(int.__sub__, counts, before))
 
 
 def counted(causes, call):

@@ -14,8 +14,8 @@ import time
 
 # So many lines wait at most. At the end they have so many seconds.
 WAITING_MOST, ENDING = 4_096, 2.0
-# How a line about a call begins.
-CALL = re.compile(r"call (\d+) ")
+# How a line about a call begins, or about two that are joined.
+CALL = re.compile(r"calls? (\d+)(?: and (\d+))? ")
 
 
 def in_words(line):
@@ -24,11 +24,13 @@ def in_words(line):
 
 
 def as_json(line):
-    """A line for a program: its moment by UTC, its words, and the number of the call that it is about."""
+    """A line for a program: its moment by UTC, its words, and the number of the call that it is about, with that of the one
+    that it is joined with."""
     now = time.time()
     told = {"time": time.strftime("%Y-%m-%dT%H:%M:%S", time.gmtime(now)) + f".{int(now * 1000) % 1000:03}Z", "message": line}
-    call = CALL.match(line)
-    return json.dumps({**told, "call": int(call[1])} if call else told) + "\n"
+    found = CALL.match(line)
+    numbers = map(int, filter(None, found.groups())) if found else ()
+    return json.dumps({**told, **dict(zip(("call", "joined"), numbers))}) + "\n"
 
 
 SHAPES = {"text": in_words, "json": as_json}

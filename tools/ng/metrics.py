@@ -15,8 +15,8 @@ from metrics import CONTENT, Histogram, Metrics
 SECONDS = 0.005, 0.01, 0.02, 0.05, 0.1, 0.2, 0.5, 1, 2, 5, 10
 LENGTHS = 1, 10, 30, 60, 120, 300, 600, 1_800, 3_600, 7_200, 14_400
 DROPS = 0, 1, 5, 10, 50, 100, 1_000, 10_000
-# The seconds that a client has for its request.
-PATIENCE = 2
+# The seconds that a client has for each part of its request, and how many may be there at once.
+PATIENCE, CLIENTS_MOST = 2, 16
 # A leg's name where a port is none of the gateway's.
 NONE = "none"
 
@@ -63,7 +63,7 @@ def add_state(rows, book):
     rows.gauge("srtpgw_up", "Whether the gateway's process is there", int(driver.gone is None))
     rows.gauge("srtpgw_draining", "Whether new calls are refused until the last one has ended", int(driver.draining))
     rows.gauge("srtpgw_process_start_seconds", "When the gateway's process began, since 1970; it changes where another one does",
-               round(driver.gateway.began, 3))
+               round(driver.gateway.started, 3))
     rows.gauge("srtpgw_late_seconds", "By how much turns of the gateway ran late, the most of the latest some seconds",
                round(max(driver.late, driver.gateway.worst), 4))
 
@@ -151,13 +151,15 @@ def add_spent(rows, driver):
         rows.gauge("srtpgw_drains_above", "What may be spent before it drains by itself", getattr(bounds, name), of=name)
 
 
-class Site(http.server.HTTPServer):
-    """Answers GET /metrics at an address, one client after the other, by what `text()` answers."""
+class Site(http.server.ThreadingHTTPServer):
+    """Answers GET /metrics at an address by what `text()` answers. No client waits for another one, and the end for none;
+    where too many are there, a further one is let go."""
 
-    allow_reuse_address = True
+    allow_reuse_address = daemon_threads = True
+    block_on_close = False
 
     def __init__(self, address, text, log):
-        self.text, self.log = text, log
+        self.text, self.log, self.room = text, log, threading.BoundedSemaphore(CLIENTS_MOST)
         super().__init__(address, Page)
         self.thread = threading.Thread(target=self.serve_forever, daemon=True)
         self.thread.start()
@@ -167,6 +169,18 @@ class Site(http.server.HTTPServer):
         self.socket.setsockopt(http.server.socketserver.socket.SOL_SOCKET, http.server.socketserver.socket.SO_REUSEADDR, 1)
         self.socket.bind(self.server_address)
         self.server_name, self.server_port = self.socket.getsockname()
+
+    def process_request(self, request, client_address):
+        if self.room.acquire(blocking=False):
+            super().process_request(request, client_address)
+        else:
+            self.shutdown_request(request)
+
+    def process_request_thread(self, request, client_address):
+        try:
+            super().process_request_thread(request, client_address)
+        finally:
+            self.room.release()
 
     def handle_error(self, request, client_address):
         pass  # A client that goes before its answer is nobody's concern.

@@ -1,6 +1,6 @@
 """Tells Kamailio of calls that have ended without it, by JSON-RPC over HTTP: `dlg.terminate_dlg` of its module `dialog`
-has it send BYE to both telephones. Another thread tells, so that no call waits for it. A file keeps the dialogs that
-are there, so that where the daemon itself was killed the next one can tell.
+has it send BYE to both telephones. Other threads tell, so that no call waits for it. A file keeps the dialogs that
+are there, or aren't told yet, so that where the daemon itself was killed the next one can tell.
 """
 
 import collections
@@ -9,9 +9,11 @@ import json
 import os
 import queue
 import threading
+import time
 import urllib.request
 
-PATIENCE = 5
+# The seconds that the SIP server has for an answer, and how many dialogs it is told of at once.
+PATIENCE, AT_ONCE = 5, 8
 
 # A SIP dialog: its Call-ID, and the tags of the one who offered first and of the other side.
 Dialog = collections.namedtuple("Dialog", "id near far")
@@ -30,27 +32,33 @@ class Telling:
 
     def __init__(self, url, log=print):
         self.url, self.log = url, log
-        self.waiting = queue.Queue()
-        self.thread = threading.Thread(target=self.work, daemon=True)
-        self.thread.start()
+        # Those that are yet to be told, each with why it has ended.
+        self.left, self.waiting = {}, queue.Queue()
+        self.threads = [threading.Thread(target=self.work, daemon=True) for _ in range(AT_ONCE)]
+        for thread in self.threads:
+            thread.start()
 
     def tell(self, told, why):
         """Has a dialog ended."""
-        self.waiting.put((told, why))
+        if self.url:
+            self.left[told] = why
+            self.waiting.put(told)
 
     def close(self):
         """Waits until all are told, or some seconds."""
-        self.waiting.put(None)
-        self.thread.join(2 * PATIENCE)
+        until = time.monotonic() + 2 * PATIENCE
+        for _ in self.threads:
+            self.waiting.put(None)
+        for thread in self.threads:
+            thread.join(max(0, until - time.monotonic()))
 
     def work(self):
-        for told, why in iter(self.waiting.get, None):
-            if not self.url:
-                continue
+        for told in iter(self.waiting.get, None):
             try:
                 self.ask(told)
             except (OSError, ValueError, http.client.HTTPException) as fault:
-                self.log(f"the SIP server couldn't be told that {told.id[:128]!r} has ended ({why}): {fault}")
+                self.log(f"the SIP server couldn't be told that {told.id[:128]!r} has ended ({self.left.get(told)}): {fault}")
+            self.left.pop(told, None)
 
     def ask(self, told):
         body = {"jsonrpc": "2.0", "id": 1, "method": "dlg.terminate_dlg", "params": list(told)}
@@ -62,13 +70,16 @@ class Telling:
 
 
 class Kept:
-    """The dialogs of the calls that are there, in a file; in none where there is no path."""
+    """The dialogs of the calls that are there, and those that aren't told yet, in a file; in none where there is no path.
+    What a daemon before this one has left stays there until it is read."""
 
-    def __init__(self, path, log=print):
-        self.path, self.log, self.lock = path, log, threading.Lock()
+    def __init__(self, path, telling, log=print):
+        self.path, self.telling, self.log, self.lock = path, telling, log, threading.Lock()
+        self.is_read = False
 
     def left(self):
         """Those that a daemon before this one has left."""
+        self.is_read = True
         try:
             with open(self.path, encoding="utf-8") as file:
                 return [Dialog(*fields) for fields in json.load(file)]
@@ -77,13 +88,13 @@ class Kept:
 
     def keep(self, calls):
         """Has the file say which calls are there now, as `calls` answers."""
-        if not self.path:
+        if not self.path or not self.is_read:
             return
         try:
             with self.lock:
                 told = [dialog(call) for call in calls() if call.live]
                 with open(f"{self.path}.new", "w", encoding="utf-8") as file:
-                    json.dump(told, file)
+                    json.dump([*list(self.telling.left), *told], file)
                 os.replace(f"{self.path}.new", self.path)
         except OSError as fault:
             self.log(f"the dialogs couldn't be kept: {fault}")

@@ -6,6 +6,7 @@ offer goes through, in which order they are answered, joined and ended, and what
 """
 
 import collections
+import json
 import sys
 from pathlib import Path
 
@@ -13,6 +14,7 @@ sys.path.insert(0, str(Path(__file__).resolve().parent.parent))
 from driver import Refused, Unjoined  # noqa: E402
 from ng.calls import Book, SIGN  # noqa: E402
 from ng.legs import inside  # noqa: E402
+from ng.log import as_json  # noqa: E402
 from ng.request import Bad, Request  # noqa: E402
 
 CLAIMS = []
@@ -123,7 +125,11 @@ def order():
     check("no key comes to the inside", b"crypto" not in plain and b"c=IN IP4 127.0.0.2" in plain and b"m=audio 9 RTP/AVP 0" in plain)
     world.answers(text_of("B"), b"a", b"b")
     check("who offered is answered first, and the other one's answer joins", world.driver.since() == [("answer", 1), ("answer", 2, 1)])
-    check("one call of the server's", len(world.book.all()) == 1 and world.book.all()[0].name() == "calls 1 and 2 (one)")
+    name = world.book.all()[0].name()
+    check("one call of the server's", len(world.book.all()) == 1 and name == "calls 1 and 2 (one)")
+    line = json.loads(as_json(f"{name} is live: the first side offered"))
+    check("both numbers in a line of the log", (line["call"], line["joined"]) == (1, 2))
+    check("or one, or none", [json.loads(as_json(line)).get("call") for line in ("call 7 (a) is live", "calls")] == [7, None])
     world.offers(text_of("A", "a=sendonly"), b"a", b"b"), world.answers(text_of("B", "a=recvonly"), b"a", b"b")
     check("held past the gateway", world.driver.since() == [])
     world.offers(text_of("C"), b"a", b"b"), world.answers(text_of("B"), b"a", b"b")
@@ -198,11 +204,38 @@ def alone():
         (0, "first", "RTP"), (0, "first", "RTCP"), (0, "inside", "RTP"), (0, "second", "RTP")])
 
 
+def signs():
+    """A held call has signs of life beside an open offer that went past the gateway, and none beside one that the gateway has."""
+    world = World()
+    call = world.call()
+    call.held, call.alive = call.alive, call.alive - SIGN - 1
+    world.offers(text_of("A", "a=sendrecv"), b"a", b"b")
+    world.book.give_sign(call)
+    check("beside an offer that went past", world.driver.since() == [
+        ("offer_plain", 1), ("reject", 1), ("offer_plain", 2), ("reject", 2)])
+    call.alive -= SIGN + 1
+    world.offers(text_of("C"), b"a", b"b"), world.driver.since()
+    world.book.give_sign(call)
+    check("none beside one that didn't", world.driver.since() == [])
+
+
+def counters():
+    """Packets are those since the call was made, and all of those since the counters began anew."""
+    world = World()
+    call = world.call()
+    call.arrived_before = {20_000: (9, 900), 20_001: (9, 900), 20_016: (9, 900)}
+    world.book.arrived = lambda ports: {20_000: (10, 1_000), 20_001: (3, 300), 20_016: (10, 800), 20_017: (2, 200)}
+    check("packets and octets", world.book.report(call).arrived == {
+        20_000: (1, 100), 20_001: (3, 300), 20_016: (10, 800), 20_017: (2, 200)})
+
+
 def main():
     order()
     tags()
     refusals()
     alone()
+    signs()
+    counters()
     bad = [what for what, holds in CLAIMS if not holds]
     print(*(f"NOT SO: {what}" for what in bad), sep="\n", end="\n" * bool(bad))
     print(f"pairs: {len(CLAIMS)} looked at, {len(bad)} are otherwise")

@@ -5,16 +5,18 @@ outcomes, and what it says of calls by it.
     python3 tools/tests/watching.py
 """
 
+import concurrent.futures
 import json
 import re
 import sys
 import tempfile
+import time
 from pathlib import Path
 
 sys.path.insert(0, str(Path(__file__).resolve().parent.parent))
 from counters import Calls, Count, Fault, Socket, counts, sockets  # noqa: E402
 from outcome_log import OutcomeLog  # noqa: E402
-from watch import Watch, prometheus, screen  # noqa: E402
+from watch import Arrived, Watch, prometheus, screen  # noqa: E402
 
 # Three datagrams of two octets came to port 20000, and three of six and one of five left it; three seconds ago.
 RECORDED = """{"nftables": [{"metainfo": {"version": "1.0.6", "release_name": "Lester Gooch #5", "json_schema_version": 1}},
@@ -235,8 +237,24 @@ def a_log_begun_anew(folder):
     check("pairs in a log that was begun anew", there == {"1": "2", "2": "1", "3": None, "4": None})
 
 
+def read_once():
+    """Of many that ask at once what has arrived, one reads."""
+    reads = []
+
+    def sets():
+        reads.append(1)
+        time.sleep(0.2)
+        return {"arrived": {20_000: Count(3, 6, 0)}}
+    arrived = Arrived(sets)
+    arrived.AGE = 60
+    with concurrent.futures.ThreadPoolExecutor(8) as pool:
+        found = list(pool.map(arrived, [[20_000, 20_001]] * 8))
+    check("one reading for many", len(reads) == 1 and found == [{20_000: (3, 6)}] * 8)
+
+
 def main():
     read()
+    read_once()
     with tempfile.TemporaryDirectory() as folder:
         world = World(Path(folder))
         one_call(world)

@@ -20,7 +20,7 @@ from outcome_log import OutcomeLog  # noqa: E402
 KEY = "RAW80:" + "00" * 20
 OTHER = "RAW80:" + "11" * 20
 PSK = "00" * 16
-NG, SCRIPT, WATCH = "tools/ng/__main__.py", "tools/script.py", "tools/watch.py"
+NG, SCRIPT, WATCH, LATCH = "tools/ng/__main__.py", "tools/script.py", "tools/watch.py", "tools/latch.py"
 WRONG = [
     (NG, "--listen 127.0.0.1:99999"), (NG, "--listen 127.0.0.1:-1"), (NG, "--listen x"), (NG, "--step nan"), (NG, "--step 0"),
     (NG, "--step -1"), (NG, "--step 1000"), (NG, "--tell foo"), (NG, "--tell http://"), (NG, "--tell ftp://a/b"),
@@ -29,6 +29,8 @@ WRONG = [
     (NG, "--priority 100"), (NG, "--hold inf"), (NG, "--frob"),
     (WATCH, "--to nowhere/x --prometheus"), (WATCH, "--every nan"), (WATCH, "--every 0"), (WATCH, "--looks 0"),
     (WATCH, "--after -1"),
+    (LATCH, "follow 20000 10.1.0.2 46000 --seconds nan"), (LATCH, "follow 20000 10.1.0.2 46000 --seconds inf"),
+    (LATCH, "follow 20000 10.1.0.2 0"), (LATCH, "follow 19999 10.1.0.2 46000"), (LATCH, "leave"),
     (SCRIPT, "--call -1 --bye"), (SCRIPT, "--call 4294967296 --bye"), (SCRIPT, "--call 01x --bye"), (SCRIPT, "--tick -5"),
     (SCRIPT, "--tick 2085978496000"), (SCRIPT, "--manual a b c d"), (SCRIPT, f"--manual 1.2.3.4:5 1.2.3.4:65536 {KEY} {OTHER}"),
     (SCRIPT, f"--manual 1.2.3.4:5 1.2.3.4:6 {KEY} {OTHER[:-2]}"),
@@ -127,6 +129,37 @@ def bounded(folder):
     check("one that comes later knows the call", list(later.by_slot) == [0] and later.by_slot[0].live == 0)
 
 
+def cut(folder):
+    """Where it can't be moved it is cut, and its bound is kept; what another daemon writes stays until it has a line itself."""
+    path, said = folder / "stays", []
+    (folder / "stays.1").mkdir()
+    log = OutcomeLog(path, 60, said.append)
+    log.write(b"made 1 0 1\n")
+    for _ in range(100):
+        log.write(b"drop 20000 Short\n")
+    lines = path.read_text().splitlines()
+    check("one that can't be moved is cut", lines[0] == "there 1 0 1 offered" and len(lines) < 5)
+    check("and told once", len(said) == 1 and "can't be moved" in said[0])
+    second = OutcomeLog(path)
+    check("one without a line leaves it", path.read_text().splitlines() == lines)
+    second.write(b"srtpgw 1\n")
+    check("and begins it with its first", path.read_text() == "srtpgw 1\n")
+
+
+# ---- a file that can't be written
+
+def unwritten(folder):
+    """A look that can't be written is told in one line, and the next one is looked at all the same."""
+    words = f"--prometheus --every 0.1 --looks 2 --to {folder}/look"
+    run = ran(WATCH, words, None)
+    check("looks that are written", (run.returncode, run.stderr) == (0, b"") and (folder / "look").exists())
+    (folder / "look.new").mkdir()
+    run = ran(WATCH, words, None)
+    said = run.stderr.decode().splitlines()
+    check(f"looks that aren't: {run.returncode}, {said}", run.returncode == 1 and len(said) == 2
+          and all(line.startswith(f"watch.py: {folder}/look isn't written: ") for line in said))
+
+
 def main():
     with tempfile.TemporaryDirectory() as name:
         folder = Path(name)
@@ -135,6 +168,8 @@ def main():
         told(text)
         programs(folder)
         bounded(folder)
+        cut(folder)
+        unwritten(folder)
     bad = [what for what, holds in CLAIMS if not holds]
     print(*(f"NOT SO: {what}" for what in bad), sep="\n", end="\n" * bool(bad))
     print(f"wrong words: {len(CLAIMS)} looked at, {len(bad)} are otherwise")
