@@ -3,7 +3,7 @@ use Rattle.std.proofs.Common.{◌≡◌, ◌⊎◌, ◌<◌, ◌≤◌, ◌+◌,
 use Rattle.sg_edge.specs.Links as links
 use Rattle.sg_relay.proofs.Common.{Act, Acting, AreDue, AreGood, AreHandled, AreInOrder, AtFailedReceive, Clock, Failing, ForReading, ForReceive, GoInOrder, IsDone}
 use Rattle.sg_relay.proofs.Common.{IsGood, IsOfOutcomes, IsOfSignals, IsOfTurns, IsReceived, IsTurn, IsTurnCut, IsTurnInOrder, IsTurnUnreceived, IsWaitCut}
-use Rattle.sg_relay.proofs.Common.{IsWaitInOrder, IsWaited, IsWaiting, Later, Link, LinkCall, NoMemory, Noise, Nothing, Received, Status, Stop, StopsWith, Weaves}
+use Rattle.sg_relay.proofs.Common.{IsWaitInOrder, IsWaited, IsWaiting, Later, Link, LinkCall, NoMemory, Noise, Nothing, Received, Status, StopsWith, Weaves}
 use Rattle.sg_relay.proofs.Common.{Woven, Write, arrivals_of, cond-false, cond-true, le-leb, lt-leb, moment_of, receipt_in, receipts_in, stopped, ticks_of}
 use Rattle.sg_relay.proofs.Common.{turned, waited, with_deeds}
 use Rattle.sg_relay.proofs.Deeds.{AreGood-append, done_more, done_none, flat_append, stops_after}

@@ -28,6 +28,8 @@ use Rattle.sg_relay.specs.Plain as plain
 use Rattle.sg_relay.specs.Relay.{IsRelay}
 use Rattle.sg_relay.specs.Relay as relays
 use Rattle.sg_relay.specs.Weaving.{Weaves}
+use Rattle.sg_run.proofs.Arrivals.{joined_takes, joined_ticks, plain_takes, plain_ticks}
+use Rattle.sg_run.proofs.Played.{joined_lines, plain_lines}
 use Rattle.sg_run.proofs.Sends.{joined_sends, plain_sends}
 use Rattle.sg_run.specs.Run.{AreTaken, HasBridged, HasCaptured, HasDone, HasMigrated, HasRelayed, HasRelayedJoined, HasReplayed, HasRun, HasShown, LeavesAlone, LeavesOthersAlone, Lent, Surroundings, PlaysInBatches, of_relay, of_replay}
 use Rattle.sg_words.specs.Commands.{AreWordsOf, IsNoCommand, Words}
@@ -65,24 +67,32 @@ not_replayed legs muxes old = record {
 
 not_relayed : (legs : (es : List Event) → LegsAreMuxed es) (muxes : Bool) (turns : ℕ) (old : Surroundings) → HasRelayed muxes turns NoMemory old old [] []
 not_relayed legs muxes turns old =
-    let none : plain.acts muxes [] ≡ [] = ap (map act_of) (no_outcomes muxes) in record {
+    let none : plain.acts muxes [] ≡ [] = ap (map act_of) (no_outcomes muxes) in
+    let ran = none_relayed plain.weaves (plain.acts muxes) none (of_relay old) turns in record {
       run = nothing_passed plain.weaves (plain.acts muxes) (plain.world muxes) none turns (of_relay old) old.failures;
       events_are = no_events muxes;
       passages_are = no_passages muxes;
       legs = λ before after is. legs before;
-      sends = plain_sends muxes NoMemory turns _ _ none_passed (none_relayed plain.weaves (plain.acts muxes) none (of_relay old) turns);
+      sends = plain_sends muxes NoMemory turns _ _ none_passed ran;
+      takes = plain_takes muxes NoMemory turns _ _ none_passed ran;
+      ticks = plain_ticks muxes NoMemory turns _ _ none_passed ran;
+      lines = plain_lines muxes NoMemory turns _ _ none_passed ran;
       most = omega arith;
     }
 
 not_relayed_joined : (law : (said : List Said) → BridgeHolds said) (turns : ℕ) (old : Surroundings) → HasRelayedJoined turns NoMemory old old [] []
-not_relayed_joined law turns old = record {
-  run = nothing_passed joined.weaves joined.acts joined.world refl turns (of_relay old) old.failures;
-  events_are = refl;
-  passages_are = refl;
-  holds = law [];
-  sends = joined_sends NoMemory turns _ _ none_passed (none_relayed joined.weaves joined.acts refl (of_relay old) turns);
-  most = omega arith;
-}
+not_relayed_joined law turns old =
+    let ran = none_relayed joined.weaves joined.acts refl (of_relay old) turns in record {
+      run = nothing_passed joined.weaves joined.acts joined.world refl turns (of_relay old) old.failures;
+      events_are = refl;
+      passages_are = refl;
+      holds = law [];
+      sends = joined_sends NoMemory turns _ _ none_passed ran;
+      takes = joined_takes NoMemory turns _ _ none_passed ran;
+      ticks = joined_ticks NoMemory turns _ _ none_passed ran;
+      lines = joined_lines NoMemory turns _ _ none_passed ran;
+      most = omega arith;
+    }
 
 not_shown : (calls start : ℕ) (old : Surroundings) → HasShown calls start NoMemory old old [] []
 not_shown calls start old = record {

@@ -1,2 +1,4 @@
+mod Arrivals
 mod Commands
+mod Played
 mod Sends

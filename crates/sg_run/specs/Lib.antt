@@ -1,2 +1,3 @@
+pub mod Arrived
 pub mod Run
 pub mod Sent
