@@ -28,7 +28,7 @@ pub use Rattle.sg_pairs.specs.Bridged.{joining, opened, parting, passed, told_an
 pub use Rattle.sg_pairs.specs.Pairs.{Joining, Members, Parting, after_outcome, joined, joined_pair, member_at, no_members, parted_from, vacated}
 pub use Rattle.sg_pairs.specs.declared.outcomes.BridgeOutcome.{BridgeOutcome}
 pub use Rattle.sg_relay.specs.Acting.{Acting, GoInOrder}
-pub use Rattle.sg_relay.specs.Asked.{Act, AreGood, AreInOrder, Ask, AtFailedReceive, Bind, EndsBadly, IsAtNext, IsCutOff, IsDone, IsGood, IsPart, Send, Sends}
+pub use Rattle.sg_relay.specs.Asked.{Act, AreDue, AreGood, AreInOrder, Ask, AtFailedReceive, Bind, EndsBadly, IsAtNext, IsCutOff, IsDone, IsGood, IsPart, Send, Sends}
 pub use Rattle.sg_relay.specs.Asked.{Unbind, act_of, ask_in, asks_in, asks_of, hold, ports_from, ports_of, receipt_in, receipts_in}
 pub use Rattle.sg_relay.specs.Causes.{IsDueTo, IsDueToLink, IsOfLines, IsOfOutcomes, IsOfSignals, IsOfTurns, IsOfWaits, IsOfWriting}
 pub use Rattle.sg_relay.specs.Completeness.{Failures, HasPassed, IsCompleteRelay}
@@ -38,7 +38,7 @@ pub use Rattle.sg_relay.specs.Parts.{AreCarriedOut, AreHandled, ArePairs, Gives,
 pub use Rattle.sg_relay.specs.Parts.{IsReceivedFirst, IsSaid, IsStopped, IsTurn, IsTurnCut, IsTurnInOrder, IsTurnUnreceived, IsWaitCut, IsWaitInOrder}
 pub use Rattle.sg_relay.specs.Parts.{IsWaited, IsWaiting, StopsWith, ended_as, taken, taking, turned}
 pub use Rattle.sg_relay.specs.Relay.{ArePaced, HoldsItsCallsPorts, IsBroken, IsRelay, IsWholeRelay, Passed, RelayEnds, RelayTellings, acts_by, deeds_by}
-pub use Rattle.sg_relay.specs.Relay.{nothing, world_by, woven_of}
+pub use Rattle.sg_relay.specs.Relay.{nothing, stop_by, world_by, woven_of}
 pub use Rattle.sg_relay.specs.Weaving.{Later, Weaves, Woven, arrivals_of, behind_given, behind_line, said, stopped, ticks_at, ticks_of, waited}
 pub use Rattle.sg_relay.specs.Weaving.{waited_or_given, weaves_of, with_deeds, woven, woven_from}
 pub use Rattle.sg_session.proofs.Lists.{any_cases, any_here, any_none, any_there, both, each_at_this, each_filter, each_map, each_of, each_weaker}

@@ -3,9 +3,9 @@ use Rattle.std.proofs.Common.{◌≡◌, List, [], ◌∷◌, ◌++◌, ℕ, ref
 use Rattle.sg_trace.proofs.Grammars.{none_fails}
 use Rattle.sg_relay.proofs.Common.{Act, AreGood, AtFault, Capture, Clock, Done, EndsBadly, Failing, IsCompleteRelay, IsGood, IsPart, IsRelay, Link, LinkCall}
 use Rattle.sg_relay.proofs.Common.{NoMemory, Noise, Passed, Read, Receive, RelayEnds, RelayTellings, Rose, Script, Status, Tally, TurnsSpent, Usage, Weaves}
-use Rattle.sg_relay.proofs.Common.{Write, acts_by, added_none, called_none, receipts_in, took_none, woven, wrote_none}
+use Rattle.sg_relay.proofs.Common.{Write, acts_by, added_none, called_none, receipts_in, stop_by, took_none, woven, wrote_none}
 use Rattle.sg_relay.proofs.Deeds.{cut_off_bad, done_none, part_of}
-use Rattle.sg_relay.proofs.Order.{order_none}
+use Rattle.sg_relay.proofs.Order.{due_none, order_none}
 
 good_last : (a : List LinkCall) (x : LinkCall) → AreGood (a ++ x ∷ []) → IsGood x
 good_last [] x good = good.0
@@ -55,4 +55,5 @@ none_relayed w acts none old turns = record {
   most = omega arith;
   paced = refl;
   in_order = order_none (acts_by w acts none_passed) [] refl;
+  due = due_none (stop_by w none_passed) [] refl;
 }

@@ -1,14 +1,20 @@
 -- Calls of a link are in order where those of the parts are.
 use Rattle.std.proofs.Common.{◌≡◌, ◌⊎◌, ◌≤◌, ℕ, List, [], ◌∷◌, ◌++◌, length, refl, sym, ap, ap₂, ◌∙◌, subst, length-append, inl, inr, arith, flat_map, append-nil}
-use Rattle.sg_relay.proofs.Common.{Act, Acting, AreInOrder, Ask, IsReceivedFirst, IsTurnInOrder, LinkCall, Receive, Received, Weaves, ask_in, asks_in}
+use Rattle.sg_relay.proofs.Common.{Act, Acting, AreDue, AreInOrder, Ask, ForReceive, IsReceivedFirst, IsTurnInOrder, LinkCall, Receive, Received, Stop, Weaves, ask_in, asks_in}
 use Rattle.sg_relay.proofs.Common.{asks_of, receipt_in, receipts_in, ticks_of, turned}
 use Rattle.sg_relay.proofs.Deeds.{flat_append}
 
 -- without a receive
-pub order_none : (f : List Received → List Act) (a : List LinkCall) → receipts_in a ≡ [] → AreInOrder f a
-order_none f a none = λ before after x is.
+no_receive : (a before after : List LinkCall) (x : Received) → receipts_in a ≡ [] → a ≡ before ++ Receive x ∷ after → ⊥
+no_receive a before after x none is =
     let e : receipts_in before ++ (x ∷ receipts_in after) ≡ [] = sym (flat_append receipt_in before (Receive x ∷ after)) ∙ sym (ap receipts_in is) ∙ none in
-    absurd (omega (arith, ap length e, length-append (receipts_in before) (x ∷ receipts_in after)))
+    omega (arith, ap length e, length-append (receipts_in before) (x ∷ receipts_in after))
+
+pub order_none : (f : List Received → List Act) (a : List LinkCall) → receipts_in a ≡ [] → AreInOrder f a
+order_none f a none = λ before after x is. absurd (no_receive a before after x none is)
+
+pub due_none : (f : List Received → Stop) (a : List LinkCall) → receipts_in a ≡ [] → AreDue f a
+due_none f a none = λ before after x is. absurd (no_receive a before after x none is)
 
 -- Two lists are split at an item: it is of the first, or of the second.
 abbrev IsSplit : {X : Type 0} → List X → List X → List X → X → List X → Type 0
@@ -40,17 +46,35 @@ pub order_more : (f g : List Received → List Act) (os : List Act) (a b : List 
     → AreInOrder f a → AreInOrder g b → AreInOrder f (a ++ b)
 order_more f g os a b goes asked first more = λ before after x is. order_at f g os a b goes asked first more before after x (split_in a b before (Receive x) after is)
 
+due_at : (f g : List Received → Stop) (a b : List LinkCall) → ((xs : List Received) → f (receipts_in a ++ xs) ≡ g xs) → AreDue f a → AreDue g b
+    → (before after : List LinkCall) (x : Received) → IsSplit a b before (Receive x) after → f (receipts_in before) ≡ ForReceive
+due_at f g a b goes first more before after x (inl (rest, is)) = first before rest x is
+due_at f g a b goes first more before after x (inr (rest, is, then)) = ap f (ap receipts_in is ∙ flat_append receipt_in a rest) ∙ goes (receipts_in rest) ∙ more rest after x then
+
+-- each receive of one part was due, and each of the next
+pub due_more : (f g : List Received → Stop) (a b : List LinkCall) → ((xs : List Received) → f (receipts_in a ++ xs) ≡ g xs) → AreDue f a → AreDue g b → AreDue f (a ++ b)
+due_more f g a b goes first more = λ before after x is. due_at f g a b goes first more before after x (split_in a b before (Receive x) after is)
+
 -- ---- a turn
 
 no_item : {X : Type 0} (l : List X) → length l ≤ 0 → l ≡ []
 no_item [] few = refl
 no_item (x ∷ l) few = absurd (omega (arith, few))
 
--- before a part's only receive the acts by no receive are done
+-- nothing was received before a part's only receive
+none_before : (a before after : List LinkCall) (x : Received) → length (receipts_in a) ≤ 1 → a ≡ before ++ Receive x ∷ after → receipts_in before ≡ []
+none_before a before after x few is =
+    let all : length (receipts_in a) ≡ length (receipts_in before ++ (x ∷ receipts_in after)) = ap length (ap receipts_in is ∙ flat_append receipt_in before (Receive x ∷ after)) in
+    no_item (receipts_in before) (omega (arith, few, all, length-append (receipts_in before) (x ∷ receipts_in after)))
+
+-- so it is due where one is due by no receive
+pub due_as : (f : List Received → Stop) (a : List LinkCall) → length (receipts_in a) ≤ 1 → f [] ≡ ForReceive → AreDue f a
+due_as f a few due = λ before after x is. ap f (none_before a before after x few is) ∙ due
+
+-- and the acts by no receive are done before it
 pub order_as : (f g : List Received → List Act) (a : List LinkCall) → length (receipts_in a) ≤ 1 → f [] ≡ g [] → AreInOrder g a → AreInOrder f a
 order_as f g a few same order = λ before after x is.
-    let all : length (receipts_in a) ≡ length (receipts_in before ++ (x ∷ receipts_in after)) = ap length (ap receipts_in is ∙ flat_append receipt_in before (Receive x ∷ after)) in
-    let none : receipts_in before ≡ [] = no_item (receipts_in before) (omega (arith, few, all, length-append (receipts_in before) (x ∷ receipts_in after))) in
+    let none = none_before a before after x few is in
     order before after x is ∙ ap (λ (l : List Act). flat_map asks_of l) (ap g none ∙ sym same ∙ ap f (sym none))
 
 -- a receive alone

@@ -1,20 +1,24 @@
 -- How a relay goes on, line by line.
 use Rattle.std.proofs.Common.{◌≡◌, ◌⊎◌, ◌<◌, ◌≤◌, ◌+◌, ◌^◌, ℕ, List, [], ◌∷◌, ◌++◌, length, Option, Result, Ok, Err, refl, sym, ap, ◌∙◌, subst, append_assoc, length-append, inl, inr, arith, append-nil}
 use Rattle.sg_trace.specs.Trace.{AtEnd as BehindAll, AtFault, ForDraw, ForReading, ForReceive, Outside, Stop, moment_of}
-use Rattle.sg_relay.proofs.Common.{Act, Acting, Added, AreGood, AreInOrder, ArePaced, ArePairs, AtEnd, AtFailedReceive, Called, Clock, Done, Failing}
+use Rattle.sg_relay.proofs.Common.{Act, Acting, Added, AreDue, AreGood, AreInOrder, ArePaced, ArePairs, AtEnd, AtFailedReceive, Called, Clock, Done, Failing}
 use Rattle.sg_relay.proofs.Common.{GoInOrder, IsBegun, IsBroken, IsDone, IsFaultBy, IsLineCut, IsLineInOrder, IsNextBy, IsOfLines, IsOfTurns, IsPart}
 use Rattle.sg_relay.proofs.Common.{IsReadBy, IsRelay, IsSaid, IsStopped, IsWholeRelay, Later, Link, LinkCall, NoMemory, Noise, Passed, Read, Reading, Receive}
 use Rattle.sg_relay.proofs.Common.{Received, RelayEnds, RelayTellings, Script, ScriptFault, Status, StopsWith, Tally, TookIn, TurnsSpent, Weaves, Woven}
 use Rattle.sg_relay.proofs.Common.{Write, Wrote, added_more, called_more, lines_of, nothing, receipt_in, receipts_in, said, stopped, taken, taking, took_more}
 use Rattle.sg_relay.proofs.Common.{with_deeds, woven, woven_from, woven_of, wrote_more}
 use Rattle.sg_relay.proofs.Deeds.{AreGood-append, done_more, done_none, flat_append, part_longer, part_of, stops_after, stops_longer}
-use Rattle.sg_relay.proofs.Order.{order_more, order_none}
+use Rattle.sg_relay.proofs.Order.{due_more, due_none, order_more, order_none}
 use Rattle.sg_relay.proofs.Waits.{done_nothing, of_turns}
 use Rattle.sg_relay.proofs.Weavings.{reads_on, stops_at, with_deeds_again}
 
 -- what is done for the deeds of a weaving, by its receives
 abbrev pub told_by : {L S D : Type 0} → Weaves L D → Acting S D → S → List ℕ → List ℕ → List ℕ → List Received → List Act
 told_by w acting state octets readings draws receipts = acting.acts state (woven w octets readings receipts draws).deeds
+
+-- where a weaving stops, by its receives
+abbrev pub stops_by : {L D : Type 0} → Weaves L D → List ℕ → List ℕ → List ℕ → List Received → Stop
+stops_by w octets readings draws receipts = (woven w octets readings receipts draws).stop
 
 -- The relay has taken whole lines, whose deeds it has handled, and what waits behind them.
 pub record IsRelaying {L S D : Type 0} (w : Weaves L D) (acting : Acting S D) (state : S) (old now : RelayTellings) (turns began : ℕ) (p : Passed) (at : Reading) (ds : List D) (top left : ℕ) : Type 0 where
@@ -33,6 +37,7 @@ pub record IsRelaying {L S D : Type 0} (w : Weaves L D) (acting : Acting S D) (s
   pub room : at.offset + length at.waits + at.budget ≡ 2 ^ 30 + 1
   pub within : at.offset ≤ 2 ^ 30
   pub in_order : (rest : List ℕ) (o : Outside) → AreInOrder (told_by w acting state (p.octets ++ rest) (p.readings ++ o.readings) (p.draws ++ o.draws)) p.calls
+  pub due : (rest : List ℕ) (o : Outside) → AreDue (stops_by w (p.octets ++ rest) (p.readings ++ o.readings) (p.draws ++ o.draws)) p.calls
 
 pace_so : (readings : List ℕ) (receipts : List Received) → (length readings ≡ length receipts + 1) ⊎ (length readings ≡ (length receipts + 1) + 1) → ArePaced readings receipts
 pace_so [] receipts (inl same) = absurd (omega (arith, same))
@@ -107,6 +112,7 @@ module _ {L S D : Type 0} (w : Weaves L D) (acting : Acting S D) (law : GoInOrde
       paced = pace_so p.readings (receipts_in p.calls) (inl going.paced);
       in_order = subst (λ (f : List Received → List Act). AreInOrder f p.calls)
           (λ i. told_by w acting state (p.octets ++ (at.waits ++ got)) (append-nil p.readings i) (append-nil p.draws i)) (going.in_order (at.waits ++ got) nothing);
+      due = subst (λ (f : List Received → Stop). AreDue f p.calls) (λ i. stops_by w (p.octets ++ (at.waits ++ got)) (append-nil p.readings i) (append-nil p.draws i)) (going.due (at.waits ++ got) nothing);
     }
 
     -- at the end of the source
@@ -186,7 +192,20 @@ module _ {L S D : Type 0} (w : Weaves L D) (acting : Acting S D) (law : GoInOrde
           (λ xs. ap (λ (c : Woven D). acting.acts state c.deeds)
           (going.goes (is.line ++ more) (after_it xs) ∙ ap (with_deeds ds) (reads_on w began at.version at.number at.offset is.line more l top (after_it xs) is.whole is.is))
           ∙ law.acts state ds (said w began l next top (after_it xs)).deeds)
-          going.done.asked (going.in_order (is.line ++ more) (after_it [])) (order next o))
+          going.done.asked (going.in_order (is.line ++ more) (after_it [])) (order next o).0)
+
+      -- and each receive was due
+      line_due : IsLineInOrder w acting began l (acting.after state ds) top readings calls draws → (more : List ℕ) (o : Outside)
+          → AreDue (stops_by w ((p.octets ++ is.line) ++ more) ((p.readings ++ readings) ++ o.readings) ((p.draws ++ draws) ++ o.draws)) (p.calls ++ calls)
+      line_due order more o =
+          let next : Later D = woven_from w began (w.followed at.version l) (at.number + 1) (at.offset + length is.line) (lines_of more) in
+          let after_it : List Received → Outside = λ xs. taken (readings ++ o.readings) xs (draws ++ o.draws) in
+          subst (λ (f : List Received → Stop). AreDue f (p.calls ++ calls))
+          (λ i. stops_by w (sym (append_assoc p.octets is.line more) i) (sym (append_assoc p.readings readings o.readings) i) (sym (append_assoc p.draws draws o.draws) i))
+          (due_more (stops_by w (p.octets ++ (is.line ++ more)) (p.readings ++ (readings ++ o.readings)) (p.draws ++ (draws ++ o.draws))) (λ xs. (said w began l next top (after_it xs)).stop) p.calls calls
+          (λ xs. ap (λ (c : Woven D). c.stop)
+          (going.goes (is.line ++ more) (after_it xs) ∙ ap (with_deeds ds) (reads_on w began at.version at.number at.offset is.line more l top (after_it xs) is.whole is.is)))
+          (going.due (is.line ++ more) (after_it [])) (order next o).1)
 
       -- after the line was handled
       pub after : {T : Type 0} (x : T) (now' : RelayTellings) (top' left2 : ℕ) (stands_for : S → Type 0) → now'.left ≡ left' → Wrote now.written now'.written out → Called now.calls now'.calls calls
@@ -212,6 +231,7 @@ module _ {L S D : Type 0} (w : Weaves L D) (acting : Acting S D) (law : GoInOrde
         room = omega (arith, going.room, is.offset, paid, ap length is.split, length-append at.waits got, length-append is.line at'.waits);
         within = is.within;
         in_order = line_order order;
+        due = line_due order;
       }
 
       -- a line that stops where nothing more was taken
@@ -291,6 +311,8 @@ module _ {L S D : Type 0} (w : Weaves L D) (acting : Acting S D) (law : GoInOrde
         paced = ends.1.paced;
         in_order = subst (λ (f : List Received → List Act). AreInOrder f (p.calls ++ calls))
             (λ i. told_by w acting state (sym octets_are i) (append-nil (p.readings ++ readings) i) (append-nil (p.draws ++ draws) i)) (line_order order at'.waits nothing);
+        due = subst (λ (f : List Received → Stop). AreDue f (p.calls ++ calls))
+            (λ i. stops_by w (sym octets_are i) (append-nil (p.readings ++ readings) i) (append-nil (p.draws ++ draws) i)) (line_due order at'.waits nothing);
       }
 
     -- of a line that was cut
@@ -362,6 +384,7 @@ module _ {L S D : Type 0} (w : Weaves L D) (acting : Acting S D) (law : GoInOrde
     room = refl;
     within = omega arith;
     in_order = λ rest o. order_none (told_by w acting state rest (readings ++ o.readings) o.draws) calls none;
+    due = λ rest o. due_none (stops_by w rest (readings ++ o.readings) o.draws) calls none;
   }
 
   -- the same of an equal beginning

@@ -1,11 +1,11 @@
 -- What a line of a relay makes of what was taken of the outside.
 use Rattle.std.proofs.Common.{◌≡◌, ◌+◌, ℕ, List, [], ◌∷◌, ◌++◌, length, Option, Some, None, Result, Ok, Err, refl, sym, ap, ap₂, ◌∙◌, subst, inl, inr, arith, IfErr, option_map, append-nil}
-use Rattle.sg_relay.proofs.Common.{Act, Acting, AreGood, AreInOrder, ForReading, ForReceive, Gives, GoInOrder, IsBegun, IsDone, IsGiven, IsLineCut}
+use Rattle.sg_relay.proofs.Common.{Act, Acting, AreDue, AreGood, AreInOrder, ForReading, ForReceive, Gives, GoInOrder, IsBegun, IsDone, IsGiven, IsLineCut}
 use Rattle.sg_relay.proofs.Common.{IsLineInOrder, IsOfOutcomes, IsOfSignals, IsOfWaits, IsSaid, IsStopped, IsWaitCut, IsWaitInOrder, IsWaited, IsWaiting}
 use Rattle.sg_relay.proofs.Common.{Later, Link, LinkCall, NoMemory, Noise, Outside, Received, Status, Stop, StopsWith, Weaves, Write, behind_given, moment_of}
 use Rattle.sg_relay.proofs.Common.{receipts_in, said, taken, taking, waited, waited_or_given, with_deeds}
 use Rattle.sg_relay.proofs.Deeds.{done_none}
-use Rattle.sg_relay.proofs.Order.{order_none}
+use Rattle.sg_relay.proofs.Order.{due_none, order_none}
 use Rattle.sg_relay.proofs.Waits.{of_outcomes, of_signals, of_turns}
 
 -- ---- a line at which the relay waits
@@ -46,8 +46,10 @@ module _ {L S D : Type 0} (w : Weaves L D) (acting : Acting S D) (began : ℕ) (
 
     -- its calls are in order
     pub wait_line_order : IsWaitInOrder w acting (began + moment) state top readings calls → IsLineInOrder w acting began l state top readings calls []
-    wait_line_order order later o = subst (λ (f : List Received → List Act). AreInOrder f calls)
-        (λ i xs. acting.acts state (sym (said_wait later top (taken (readings ++ o.readings) xs o.draws)) i).deeds) (order later o.readings o.draws)
+    wait_line_order order later o = (
+      subst (λ (f : List Received → List Act). AreInOrder f calls) (λ i xs. acting.acts state (sym (said_wait later top (taken (readings ++ o.readings) xs o.draws)) i).deeds) (order later o.readings o.draws).0,
+      subst (λ (f : List Received → Stop). AreDue f calls) (λ i xs. (sym (said_wait later top (taken (readings ++ o.readings) xs o.draws)) i).stop) (order later o.readings o.draws).1,
+    )
 
 -- ---- another line
 
@@ -104,7 +106,10 @@ module _ {L S D : Type 0} (w : Weaves L D) (acting : Acting S D) (law : GoInOrde
 
   -- so its calls are in order
   pub given_order : {T : Type 0} (r : Result T Status) → IfErr r IsOfSignals → IsGiven r (w.gives l) acting state stands_for calls draws out → IsLineInOrder w acting began l state top [] calls draws
-  given_order r only given = λ later o. order_none (λ receipts. acting.acts state (said w began l later top (taken o.readings receipts (draws ++ o.draws))).deeds) calls (given_none r only given)
+  given_order r only given = λ later o. (
+    order_none (λ receipts. acting.acts state (said w began l later top (taken o.readings receipts (draws ++ o.draws))).deeds) calls (given_none r only given),
+    due_none (λ receipts. (said w began l later top (taken o.readings receipts (draws ++ o.draws))).stop) calls (given_none r only given),
+  )
 
 -- ---- the first reading
 

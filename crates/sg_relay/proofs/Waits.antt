@@ -1,13 +1,13 @@
 -- How a relay's turns and waits go on.
 use Rattle.std.proofs.Common.{◌≡◌, ◌⊎◌, ◌<◌, ◌≤◌, ◌+◌, ℕ, true, false, List, [], ◌∷◌, ◌++◌, length, max, Result, Ok, Err, refl, sym, ap, ap₂, ◌∙◌, subst, append_assoc, length-append, inl, inr, arith, nat_le, if◌then◌else◌, append-nil}
 use Rattle.sg_edge.specs.Links as links
-use Rattle.sg_relay.proofs.Common.{Act, Acting, AreGood, AreHandled, AreInOrder, AtFailedReceive, Clock, Failing, ForReading, ForReceive, GoInOrder, IsDone}
+use Rattle.sg_relay.proofs.Common.{Act, Acting, AreDue, AreGood, AreHandled, AreInOrder, AtFailedReceive, Clock, Failing, ForReading, ForReceive, GoInOrder, IsDone}
 use Rattle.sg_relay.proofs.Common.{IsGood, IsOfOutcomes, IsOfSignals, IsOfTurns, IsReceived, IsTurn, IsTurnCut, IsTurnInOrder, IsTurnUnreceived, IsWaitCut}
 use Rattle.sg_relay.proofs.Common.{IsWaitInOrder, IsWaited, IsWaiting, Later, Link, LinkCall, NoMemory, Noise, Nothing, Received, Status, StopsWith, Weaves}
 use Rattle.sg_relay.proofs.Common.{Woven, Write, arrivals_of, cond-false, cond-true, le-leb, lt-leb, moment_of, receipt_in, receipts_in, stopped, ticks_of}
 use Rattle.sg_relay.proofs.Common.{turned, waited, with_deeds}
 use Rattle.sg_relay.proofs.Deeds.{AreGood-append, done_more, done_none, flat_append, stops_after}
-use Rattle.sg_relay.proofs.Order.{order_as, order_more, order_none}
+use Rattle.sg_relay.proofs.Order.{due_as, due_more, due_none, order_as, order_more, order_none}
 use Rattle.sg_relay.proofs.Weavings.{with_deeds_again}
 
 -- what holds of each status of outcomes holds of one that is such
@@ -80,7 +80,10 @@ pub goes_none : {L D : Type 0} (w : Weaves L D) (until top : ℕ) → GoesOn w u
 goes_none w until top = λ later rs xs draws. refl
 
 pub wait_order_none : {L S D : Type 0} (w : Weaves L D) (acting : Acting S D) (until : ℕ) (state : S) (top : ℕ) → IsWaitInOrder w acting until state top [] []
-wait_order_none w acting until state top = λ later rs draws. order_none (λ xs. acting.acts state (waited w until later top rs xs draws).deeds) [] refl
+wait_order_none w acting until state top = λ later rs draws. (
+  order_none (λ xs. acting.acts state (waited w until later top rs xs draws).deeds) [] refl,
+  due_none (λ xs. (waited w until later top rs xs draws).stop) [] refl,
+)
 
 module _ {L S D : Type 0} (w : Weaves L D) (acting : Acting S D) (law : GoInOrder acting) where
   -- a turn that was cut in its receive
@@ -277,16 +280,26 @@ module _ {L S D : Type 0} (w : Weaves L D) (acting : Acting S D) (law : GoInOrde
             (ap (λ (l : List ℕ). acting.acts (acting.after state es) (waited w until later top' (l ++ rs) [] draws).deeds) one ∙ ap (acting.acts (acting.after state es)) (append-nil (ticks_of w top' r)))
             order
 
+        -- its receive was due
+        rest_due : IsTurnInOrder w acting (acting.after state es) top' readings' calls' → (later : Later D) (rs draws : List ℕ) → AreDue (λ xs. (waited w until later top' (readings' ++ rs) xs draws).stop) calls'
+        rest_due (inl none) later rs draws = due_none (λ xs. (waited w until later top' (readings' ++ rs) xs draws).stop) calls' (ap receipts_in none)
+        rest_due (inr (r, one, few, order)) later rs draws =
+            due_as (λ xs. (waited w until later top' (readings' ++ rs) xs draws).stop) calls' few (ap (λ (l : List ℕ). (waited w until later top' (l ++ rs) [] draws).stop) one)
+
         -- one turn more is in order
         pub wait_order : IsWaitInOrder w acting until state top readings calls → IsTurnInOrder w acting (acting.after state es) top' readings' calls' → IsWaitInOrder w acting until state top (readings ++ readings') (calls ++ calls')
         wait_order before turn later rs draws =
-            subst (λ (l : List ℕ). AreInOrder (λ xs. acting.acts state (waited w until later top l xs draws).deeds) (calls ++ calls')) (sym (append_assoc readings readings' rs))
-            (order_more (λ xs. acting.acts state (waited w until later top (readings ++ (readings' ++ rs)) xs draws).deeds)
-            (λ xs. acting.acts (acting.after state es) (waited w until later top' (readings' ++ rs) xs draws).deeds) (acting.acts state es) calls calls'
-            (λ xs. ap (λ (c : Woven D). acting.acts state c.deeds)
-            (ap (λ (m : List Received). waited w until later top (readings ++ (readings' ++ rs)) (m ++ xs) draws) is ∙ goes later (readings' ++ rs) xs draws)
-            ∙ law.acts state es (waited w until later top' (readings' ++ rs) xs draws).deeds)
-            done.asked (before later (readings' ++ rs) draws) (rest_order turn later rs draws))
+            let go : (xs : List Received) → waited w until later top (readings ++ (readings' ++ rs)) (receipts_in calls ++ xs) draws ≡ with_deeds es (waited w until later top' (readings' ++ rs) xs draws) =
+            λ xs. ap (λ (m : List Received). waited w until later top (readings ++ (readings' ++ rs)) (m ++ xs) draws) is ∙ goes later (readings' ++ rs) xs draws in (
+              subst (λ (l : List ℕ). AreInOrder (λ xs. acting.acts state (waited w until later top l xs draws).deeds) (calls ++ calls')) (sym (append_assoc readings readings' rs))
+                  (order_more (λ xs. acting.acts state (waited w until later top (readings ++ (readings' ++ rs)) xs draws).deeds)
+                  (λ xs. acting.acts (acting.after state es) (waited w until later top' (readings' ++ rs) xs draws).deeds) (acting.acts state es) calls calls'
+                  (λ xs. ap (λ (c : Woven D). acting.acts state c.deeds) (go xs) ∙ law.acts state es (waited w until later top' (readings' ++ rs) xs draws).deeds)
+                  done.asked (before later (readings' ++ rs) draws).0 (rest_order turn later rs draws)),
+              subst (λ (l : List ℕ). AreDue (λ xs. (waited w until later top l xs draws).stop) (calls ++ calls')) (sym (append_assoc readings readings' rs))
+                  (due_more (λ xs. (waited w until later top (readings ++ (readings' ++ rs)) xs draws).stop) (λ xs. (waited w until later top' (readings' ++ rs) xs draws).stop) calls calls'
+                  (λ xs. ap (λ (c : Woven D). c.stop) (go xs)) (before later (readings' ++ rs) draws).1 (rest_due turn later rs draws)),
+            )
 
         -- the last turn
         pub over_wait : (moment : ℕ) (pad : List ℕ) (top2 turns2 : ℕ) (stands_for : S → Type 0) → until ≤ moment → turns2 + 1 ≡ turns' → IsTurn (Ok (moment, pad)) w acting (acting.after state es) top' top2 stands_for readings' calls' out'

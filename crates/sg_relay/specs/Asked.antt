@@ -9,6 +9,7 @@ use Rattle.sg_outcome.specs.declared.outcomes.Outcome.{Outcome}
 use Rattle.sg_outcome.specs.OutcomeText.{outcome_line}
 use Rattle.sg_outcome.specs.declared.outcomes.Outcome.TheVariants.{Made, Ended, Out, Unsent}
 use Rattle.sg_trace.specs.Output.{IsPrefixOf}
+use Rattle.sg_trace.specs.Trace.{ForReceive, Stop}
 
 -- what an outcome asks of a link
 pub data Ask : Type 0 where
@@ -184,3 +185,7 @@ AtFailedReceive holds calls = (before : List LinkCall) × (calls ≡ before ++ l
 abbrev pub AreInOrder : (List Received → List Act) → List LinkCall → Type 0
 AreInOrder acts_by calls =
     (before after : List LinkCall) (x : Received) → calls ≡ before ++ links.Receive x ∷ after → asks_in before ≡ flat_map asks_of (acts_by (receipts_in before))
+
+-- Whenever a receive was asked for, one was due: where the run stops by the receives before it, a receive comes next.
+abbrev pub AreDue : (List Received → Stop) → List LinkCall → Type 0
+AreDue stop_by calls = (before after : List LinkCall) (x : Received) → calls ≡ before ++ links.Receive x ∷ after → stop_by (receipts_in before) ≡ ForReceive

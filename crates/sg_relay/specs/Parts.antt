@@ -8,7 +8,7 @@ use Rattle.sg_trace.specs.declared.status.Status.{Status}
 use Rattle.sg_trace.specs.declared.status.Status.TheVariants.{Link, Clock, Noise, TurnsSpent}
 use Rattle.sg_edge.specs.Links.{Failing, LinkCall, Receive, Received}
 use Rattle.sg_relay.specs.Acting.{Acting}
-use Rattle.sg_relay.specs.Asked.{Act, AreGood, AreInOrder, Ask, AtFailedReceive, EndsBadly, IsCutOff, IsDone, IsPart, asks_in, receipts_in, sends_in}
+use Rattle.sg_relay.specs.Asked.{Act, AreDue, AreGood, AreInOrder, Ask, AtFailedReceive, EndsBadly, IsCutOff, IsDone, IsPart, asks_in, receipts_in, sends_in}
 use Rattle.sg_relay.specs.Weaving.{Later, Weaves, Woven, arrivals_of, said, stopped, ticks_of, waited, with_deeds}
 
 -- These are the calls that were asked for, and none else: each went well, or the last one failed.
@@ -182,12 +182,16 @@ abbrev pub IsTurnInOrder : {L S D : Type 0} → Weaves L D → Acting S D → S 
 IsTurnInOrder w a state top readings calls =
     (calls ≡ []) ⊎ ((r : ℕ) × (readings ≡ r ∷ []) × (length (receipts_in calls) ≤ 1) × AreInOrder (λ receipts. a.acts state (turned w top r receipts)) calls)
 
--- in a wait, whatever is taken after it
+-- in a wait, whatever is taken after it; each receive was due
 abbrev pub IsWaitInOrder : {L S D : Type 0} → Weaves L D → Acting S D → ℕ → S → ℕ → List ℕ → List LinkCall → Type 0
 IsWaitInOrder {L} {S} {D} w a until state top readings calls =
-    (later : Later D) (rs draws : List ℕ) → AreInOrder (λ receipts. a.acts state (waited w until later top (readings ++ rs) receipts draws).deeds) calls
+    (later : Later D) (rs draws : List ℕ)
+    → AreInOrder (λ receipts. a.acts state (waited w until later top (readings ++ rs) receipts draws).deeds) calls
+    × AreDue (λ receipts. (waited w until later top (readings ++ rs) receipts draws).stop) calls
 
--- in a line, whatever is taken after it
+-- in a line, whatever is taken after it; each receive was due
 abbrev pub IsLineInOrder : {L S D : Type 0} → Weaves L D → Acting S D → ℕ → L → S → ℕ → List ℕ → List LinkCall → List ℕ → Type 0
 IsLineInOrder {L} {S} {D} w a began l state top readings calls draws =
-    (later : Later D) (o : Outside) → AreInOrder (λ receipts. a.acts state (said w began l later top (taken (readings ++ o.readings) receipts (draws ++ o.draws))).deeds) calls
+    (later : Later D) (o : Outside)
+    → AreInOrder (λ receipts. a.acts state (said w began l later top (taken (readings ++ o.readings) receipts (draws ++ o.draws))).deeds) calls
+    × AreDue (λ receipts. (said w began l later top (taken (readings ++ o.readings) receipts (draws ++ o.draws))).stop) calls

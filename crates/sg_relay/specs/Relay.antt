@@ -7,7 +7,7 @@ use Rattle.sg_edge.specs.Told.{AtEnd, Tally, TookIn, Wrote}
 use Rattle.sg_gateway.specs.World.{World}
 use Rattle.sg_trace.specs.declared.status.Status.{Status}
 use Rattle.sg_trace.specs.declared.status.Status.TheVariants.{Done, Script, Read, Write, Link, NoMemory, Clock, Noise, TurnsSpent}
-use Rattle.sg_relay.specs.Asked.{Act, AreGood, AreInOrder, AtFailedReceive, IsCutOff, IsDone, IsPart, asks_in, receipts_in}
+use Rattle.sg_relay.specs.Asked.{Act, AreDue, AreGood, AreInOrder, AtFailedReceive, IsCutOff, IsDone, IsPart, asks_in, receipts_in}
 use Rattle.sg_relay.specs.Held.{AreOfCalls, EachFits}
 use Rattle.sg_relay.specs.Weaving.{Weaves, Woven, woven}
 use Rattle.sg_trace.specs.Trace.{AtEnd as BehindAll, AtFault, ForDraw, ForReading, ForReceive, Outside, Stop}
@@ -32,6 +32,10 @@ deeds_by w p receipts = (woven w p.octets p.readings receipts p.draws).deeds
 -- what is to be done for them
 abbrev pub acts_by : {L D : Type 0} → Weaves L D → (List D → List Act) → Passed → List Received → List Act
 acts_by w acts p receipts = acts (deeds_by w p receipts)
+
+-- where it stops, had it received no more than this
+abbrev pub stop_by : {L D : Type 0} → Weaves L D → Passed → List Received → Stop
+stop_by w p receipts = (woven w p.octets p.readings receipts p.draws).stop
 
 abbrev pub nothing : Outside
 nothing = record { readings = []; receipts = []; draws = [] }
@@ -84,8 +88,8 @@ pub record RelayTellings : Type 0 where
   pub draws : Tally
 
 -- The relay read these octets, of which there are at most 2^30 + 1, wrote those, and made these calls; it took
--- at most so many turns. Whenever it asked the link for a receive, it had asked for all that is to be done for the deeds up to
--- there, and for nothing else.
+-- at most so many turns. Whenever it asked the link for a receive, one was due, and it had asked for all that is to be done for the
+-- deeds up to there, and for nothing else.
 pub record IsRelay {L D : Type 0} (w : Weaves L D) (acts : List D → List Act) (status : Status) (turns : ℕ) (old new : RelayTellings) (p : Passed) : Type 0 where
   pub took : TookIn old.left new.left p.octets
   pub wrote : Wrote old.written new.written p.out
@@ -97,6 +101,7 @@ pub record IsRelay {L D : Type 0} (w : Weaves L D) (acts : List D → List Act) 
   pub most : length p.readings ≤ turns + 1
   pub paced : ArePaced p.readings (receipts_in p.calls)
   pub in_order : AreInOrder (acts_by w acts p) p.calls
+  pub due : AreDue (stop_by w p) p.calls
 
 -- the world of its calls, had it received no more than this
 abbrev pub world_by : {L D : Type 0} → Weaves L D → (List D → World) → Passed → List Received → World

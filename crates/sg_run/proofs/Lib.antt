@@ -8,5 +8,7 @@ mod Countings
 mod LinesSay
 mod MigrationWrites
 mod Courses
+mod Arrivals
+mod Played
 mod Sends
 mod Writes

@@ -4,6 +4,7 @@ pub mod ByOption
 pub mod Counted
 pub mod LineWords
 pub mod Migrates
+pub mod Arrived
 pub mod Run
 pub mod Sent
 pub mod Written

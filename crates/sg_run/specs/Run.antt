@@ -22,6 +22,7 @@ use Rattle.sg_mux.specs.Via.{events_in as table_events, passages_in}
 use Rattle.sg_passages.specs.Passages.{Passage, plain_passages}
 use Rattle.sg_playback.specs.Replay.{IsCompleteReplay, IsReplay}
 use Rattle.sg_playback.specs.Replay as replays
+use Rattle.sg_relay.specs.Asked.{receipts_in}
 use Rattle.sg_relay.specs.Completeness.{Failures, HasPassed}
 use Rattle.sg_relay.specs.Joined as joined
 use Rattle.sg_relay.specs.Plain as plain
@@ -32,6 +33,7 @@ use Rattle.sg_run.specs.Heard.{IsHeard, IsHeardByRelay, LinesAreHeard, RelaysHea
 use Rattle.sg_run.specs.ByOption.{AreToldPlainly, GoesByOption}
 use Rattle.sg_run.specs.Counted.{CountsWhatIsTold}
 use Rattle.sg_run.specs.Migrates.{WritesMigrated}
+use Rattle.sg_run.specs.Arrived.{HasPlayed, TakesAsReceived, TicksAsRead, came, came_to_bridge, nothings, said_without_ticks, ticks_in, ticks_said, without_ticks}
 use Rattle.sg_run.specs.Sent.{SendsAsTold, put_out_in, put_out_in_bridge}
 use Rattle.sg_run.specs.Written.{CaptureHasWritten, HasWritten, RelayHasWritten, bridging_lines, joined_lines, passage_lines, plain_lines}
 use Rattle.sg_words.specs.Commands.{AreWordsOf, Words}
@@ -80,7 +82,9 @@ pub record HasReplayed (muxes : Bool) (status : Status) (old new : Surroundings)
 
 -- This passed between a relay and the outside; these are its events as they come to the gateway, and what is told of them.
 -- Whenever it received it listened at the ports of the calls that were there, and at no others, and had sent what is told as put
--- out, and nothing else. It wrote the lines of all else that is told, and of packets that weren't sent. It took so many turns at most.
+-- out, and nothing else; what it received came next, and its ticks were the moments that it had read. It wrote the lines of all else
+-- that is told, and of packets that weren't sent. Had nothing come, it had but for its ticks what a replay of the same octets has but
+-- for them. It took so many turns at most.
 -- Where nothing fails, sends aside, it handles a script in the grammar that asks for no more turns to the end, or memory runs out.
 pub record HasRelayed (muxes : Bool) (turns : ℕ) (status : Status) (old new : Surroundings) (events : List Event) (passages : List Passage) : Type 0 where
   pub run : HasPassed plain.weaves (plain.acts muxes) (plain.world muxes) status turns (of_relay old) (of_relay new) old.failures new.failures
@@ -90,6 +94,9 @@ pub record HasRelayed (muxes : Bool) (turns : ℕ) (status : Status) (old new : 
   pub option : GoesByOption muxes (woven_of plain.weaves run.passed).deeds events passages
   pub sends : SendsAsTold status run.passed.calls (λ receipts. put_out_in (passages_in muxes (deeds_by plain.weaves run.passed receipts)))
   pub written : RelayHasWritten status run.passed.calls run.passed.out (λ receipts. plain_lines (passages_in muxes (deeds_by plain.weaves run.passed receipts)))
+  pub takes : TakesAsReceived run.passed.calls came (deeds_by plain.weaves run.passed)
+  pub ticks : TicksAsRead status run.passed.calls run.passed.readings (λ receipts. ticks_in (deeds_by plain.weaves run.passed receipts))
+  pub lines : HasPlayed status (without_ticks (deeds_by plain.weaves run.passed (nothings (receipts_in run.passed.calls)))) (without_ticks (replayed run.passed.octets run.passed.draws).events)
   pub most : new.readings.count ≤ old.readings.count + (turns + 1)
 
 -- This passed between a relay whose calls may be joined and the outside. Its events at the gateway are those of its lines, its ticks
@@ -106,6 +113,9 @@ pub record HasRelayedJoined (turns : ℕ) (status : Status) (old new : Surroundi
   pub alike : RelaysHearAsBridges
   pub sends : SendsAsTold status run.passed.calls (λ receipts. put_out_in_bridge (bridgings (deeds_by joined.weaves run.passed receipts)))
   pub written : RelayHasWritten status run.passed.calls run.passed.out (λ receipts. joined_lines (bridgings (deeds_by joined.weaves run.passed receipts)))
+  pub takes : TakesAsReceived run.passed.calls came_to_bridge (deeds_by joined.weaves run.passed)
+  pub ticks : TicksAsRead status run.passed.calls run.passed.readings (λ receipts. ticks_said (deeds_by joined.weaves run.passed receipts))
+  pub lines : HasPlayed status (said_without_ticks (deeds_by joined.weaves run.passed (nothings (receipts_in run.passed.calls)))) (said_without_ticks (bridge_trace run.passed.octets run.passed.draws).deeds)
   pub most : new.readings.count ≤ old.readings.count + (turns + 1)
 
 -- with Done these are all of the demonstration's events, and else the first of them

@@ -1,9 +1,9 @@
 use Rattle.std.proofs.Common.{rules, ◌≡◌, ◌⊎◌, ◌<◌, ◌≤◌, ◌^◌, ℕ, List, [], ◌++◌, Ok, Err, sym, ◌∙◌, subst, refl, arith, IfSome}
 use Rattle.sg_relay.proofs.Common.{AtEnd, Done, IsNextBy, IsReadBy, Read, acts_by, added_none, failed_now, last_moment, moment_of, not_failed, ok_not}
-use Rattle.sg_relay.proofs.Common.{took_none, weaves_of, whole_some}
+use Rattle.sg_relay.proofs.Common.{stop_by, took_none, weaves_of, whole_some}
 use Rattle.sg_relay.proofs.Blames.{due_so, lines_not_read}
 use Rattle.sg_relay.proofs.Complete.{none_passed, none_relayed}
-use Rattle.sg_relay.proofs.Order.{order_none}
+use Rattle.sg_relay.proofs.Order.{due_none, order_none}
 use Rattle.sg_relay.proofs.Relays.{after, at_end, at_error, began_so, begins_so, begun_ends, behind, cut, ended_in, only_begun, passed, reading_so, with_line}
 use Rattle.sg_relay.proofs.turns.Relaying.play.Goals as goal
 
@@ -38,6 +38,7 @@ returns-in-Err-begin-clause-ran g c = λ state stood.
         most = ends.2;
         paced = ends.1;
         in_order = order_none (acts_by w (acting.acts state) (only_begun begun.0 begun.1 begun.2)) begun.1 ends.3;
+        due = due_none (stop_by w (only_begun begun.0 begun.1 begun.2)) begun.1 ends.3;
       },
     )
 
