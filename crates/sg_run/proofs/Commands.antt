@@ -41,7 +41,6 @@ use Rattle.sg_run.proofs.Sends.{joined_sends, plain_sends}
 use Rattle.sg_run.specs.ByOption.{GoesByOption}
 use Rattle.sg_run.specs.Run.{AreTaken, HasBridged, HasCaptured, HasDone, HasMigrated, HasRelayed, HasRelayedJoined, HasReplayed, HasRun, HasShown, LeavesAlone, LeavesOthersAlone, Lent, Surroundings, PlaysInBatches, of_migration as of_migration_tellings, of_relay, of_replay}
 use Rattle.sg_run.proofs.Writes.{joined_writes, none_written, plain_writes}
-use Rattle.sg_run.specs.Run.{AreTaken, HasBridged, HasCaptured, HasDone, HasMigrated, HasRelayed, HasRelayedJoined, HasReplayed, HasRun, HasShown, LeavesAlone, LeavesOthersAlone, Lent, Surroundings, PlaysInBatches, of_relay, of_replay}
 use Rattle.sg_words.specs.Commands.{AreWordsOf, IsNoCommand, Words}
 use Rattle.sg_words.specs.declared.command.Command.{Command}
 use Rattle.sg_words.specs.declared.command.Command.TheVariants.{Replay, Relay, RelayJoined, Demo, Migrate, Bridge}
@@ -87,9 +86,6 @@ not_replayed legs option muxes old = record {
 
 not_relayed : (legs : (es : List Event) → LegsAreMuxed es) (option : OptionHolds) (muxes : Bool) (turns : ℕ) (old : Surroundings) → HasRelayed muxes turns NoMemory old old [] []
 not_relayed legs option muxes turns old =
-    let none : plain.acts muxes [] ≡ [] = ap (map act_of) (no_outcomes muxes) in record {
-not_relayed : (legs : (es : List Event) → LegsAreMuxed es) (muxes : Bool) (turns : ℕ) (old : Surroundings) → HasRelayed muxes turns NoMemory old old [] []
-not_relayed legs muxes turns old =
     let none : plain.acts muxes [] ≡ [] = ap (map act_of) (no_outcomes muxes) in
     let ran = none_relayed plain.weaves (plain.acts muxes) none (of_relay old) turns in record {
       run = nothing_passed plain.weaves (plain.acts muxes) (plain.world muxes) none turns (of_relay old) old.failures;
@@ -97,38 +93,29 @@ not_relayed legs muxes turns old =
       passages_are = no_passages muxes;
       legs = λ before after is. legs before;
       option = nothing_by option muxes;
-      sends = plain_sends muxes NoMemory turns _ _ none_passed (none_relayed plain.weaves (plain.acts muxes) none (of_relay old) turns);
-      written = plain_writes muxes NoMemory turns _ _ none_passed (none_relayed plain.weaves (plain.acts muxes) none (of_relay old) turns);
       sends = plain_sends muxes NoMemory turns _ _ none_passed ran;
       takes = plain_takes muxes NoMemory turns _ _ none_passed ran;
       ticks = plain_ticks muxes NoMemory turns _ _ none_passed ran;
       lines = plain_plays muxes NoMemory turns _ _ none_passed ran;
+      written = plain_writes muxes NoMemory turns _ _ none_passed ran;
       most = omega arith;
     }
 
 not_relayed_joined : (law : (said : List Said) → BridgeHolds said) (turns : ℕ) (old : Surroundings) → HasRelayedJoined turns NoMemory old old [] []
-not_relayed_joined law turns old = record {
-  run = nothing_passed joined.weaves joined.acts joined.world refl turns (of_relay old) old.failures;
-  events_are = refl;
-  passages_are = refl;
-  plain = told_plainly [];
-  holds = law [];
-  heard = relays_hear;
-  alike = relays_hear_as_bridges;
-  sends = joined_sends NoMemory turns _ _ none_passed (none_relayed joined.weaves joined.acts refl (of_relay old) turns);
-  written = joined_writes NoMemory turns _ _ none_passed (none_relayed joined.weaves joined.acts refl (of_relay old) turns);
-  most = omega arith;
-}
 not_relayed_joined law turns old =
     let ran = none_relayed joined.weaves joined.acts refl (of_relay old) turns in record {
       run = nothing_passed joined.weaves joined.acts joined.world refl turns (of_relay old) old.failures;
       events_are = refl;
       passages_are = refl;
+      plain = told_plainly [];
       holds = law [];
+      heard = relays_hear;
+      alike = relays_hear_as_bridges;
       sends = joined_sends NoMemory turns _ _ none_passed ran;
       takes = joined_takes NoMemory turns _ _ none_passed ran;
       ticks = joined_ticks NoMemory turns _ _ none_passed ran;
       lines = joined_plays NoMemory turns _ _ none_passed ran;
+      written = joined_writes NoMemory turns _ _ none_passed ran;
       most = omega arith;
     }
 
