@@ -23,7 +23,12 @@ use Rattle.sg_outcome.specs.declared.outcomes.Outcome.{Outcome}
 use Rattle.sg_outcome.specs.declared.outcomes.Outcome.TheVariants as tells
 use Rattle.sg_outcome.specs.declared.outcomes.Why.{Why}
 use Rattle.sg_outcome.specs.declared.outcomes.Why.TheVariants as whys
-use Rattle.sg_run.specs.LineWords.{SaysCs, SaysDrop, SaysMikey, SaysPsk, SaysRefusal, SaysSdes, SaysSdp, SaysSide, SaysWhatIsTold, SaysWhy}
+use Rattle.sg_pairs.specs.BridgeText.{bridge_outcome_line, join_fault_text}
+use Rattle.sg_pairs.specs.declared.faults.JoinFault.{JoinFault}
+use Rattle.sg_pairs.specs.declared.faults.JoinFault.TheVariants as joins
+use Rattle.sg_pairs.specs.declared.outcomes.BridgeOutcome.{BridgeOutcome}
+use Rattle.sg_pairs.specs.declared.outcomes.BridgeOutcome.TheVariants as bridges
+use Rattle.sg_run.specs.LineWords.{SaysCs, SaysDrop, SaysMikey, SaysPsk, SaysRefusal, SaysSdes, SaysSdp, SaysSide, SaysUnjoined, SaysWhatABridgeTells, SaysWhatIsTold, SaysWhy}
 
 side_says : (side : Side) → SaysSide side (side_name side)
 side_says sides.Secure = refl
@@ -132,3 +137,23 @@ lines_say (tells.Dropped port cause) = (
   ap (λ (l : List ℕ). l ++ codes "\n") (append_assoc (codes "drop " ++ decimal port ++ codes " ") (drop_cause_name cause) (drop_cause_numbers cause)),
 )
 lines_say (tells.Unsent port to) = refl
+
+unjoined_says : (cause : JoinFault) → SaysUnjoined cause (join_fault_text cause)
+unjoined_says joins.CallUnknown = refl
+unjoined_says joins.Same = refl
+unjoined_says joins.Unready = refl
+unjoined_says (joins.Joined call) = refl
+unjoined_says joins.MediaCount = refl
+unjoined_says joins.NotJoined = refl
+
+pub bridge_lines_say : (o : BridgeOutcome) → SaysWhatABridgeTells o
+unfolding bridge_outcome_line
+bridge_lines_say (bridges.Table o) = lines_say o
+bridge_lines_say (bridges.Joined first second) = refl
+bridge_lines_say (bridges.Parted first second) = refl
+bridge_lines_say (bridges.Unjoined id cause) = (join_fault_text cause, unjoined_says cause, refl)
+bridge_lines_say (bridges.Lost port cause) = (
+  drop_words cause,
+  drop_says cause,
+  ap (λ (l : List ℕ). l ++ codes "\n") (append_assoc (codes "lost " ++ decimal port ++ codes " ") (drop_cause_name cause) (drop_cause_numbers cause)),
+)

@@ -24,6 +24,11 @@ use Rattle.sg_outcome.specs.declared.outcomes.Outcome.{Outcome}
 use Rattle.sg_outcome.specs.declared.outcomes.Outcome.TheVariants as tells
 use Rattle.sg_outcome.specs.declared.outcomes.Why.{Why}
 use Rattle.sg_outcome.specs.declared.outcomes.Why.TheVariants as whys
+use Rattle.sg_pairs.specs.BridgeText.{bridge_outcome_line}
+use Rattle.sg_pairs.specs.declared.faults.JoinFault.{JoinFault}
+use Rattle.sg_pairs.specs.declared.faults.JoinFault.TheVariants as joins
+use Rattle.sg_pairs.specs.declared.outcomes.BridgeOutcome.{BridgeOutcome}
+use Rattle.sg_pairs.specs.declared.outcomes.BridgeOutcome.TheVariants as bridges
 
 -- the side to which a text goes
 abbrev pub SaysSide : Side → List ℕ → Type 0
@@ -120,6 +125,15 @@ SaysRefusal refusals.PskKnown words = words ≡ codes "PskKnown"
 SaysRefusal refusals.PskFull words = words ≡ codes "PskFull"
 SaysRefusal refusals.State words = words ≡ codes "State"
 
+-- why a call isn't joined, or parted
+abbrev pub SaysUnjoined : JoinFault → List ℕ → Type 0
+SaysUnjoined joins.CallUnknown words = words ≡ codes "CallUnknown"
+SaysUnjoined joins.Same words = words ≡ codes "Same"
+SaysUnjoined joins.Unready words = words ≡ codes "Unready"
+SaysUnjoined (joins.Joined call) words = words ≡ codes "Joined " ++ decimal call.0
+SaysUnjoined joins.MediaCount words = words ≡ codes "MediaCount"
+SaysUnjoined joins.NotJoined words = words ≡ codes "NotJoined"
+
 -- the line of an outcome
 abbrev pub IsLineOf : Outcome → List ℕ → Type 0
 IsLineOf (tells.Made id slot media) line = line ≡ codes "made " ++ decimal id.0 ++ codes " " ++ decimal slot ++ codes " " ++ decimal media ++ codes "\n"
@@ -139,3 +153,15 @@ IsLineOf (tells.Unsent port to) line = line ≡ codes "unsent " ++ decimal port 
 -- the line that is written of each outcome has its words
 abbrev pub SaysWhatIsTold : Outcome → Type 0
 SaysWhatIsTold o = IsLineOf o (outcome_line o)
+
+-- the line of an outcome of a bridge
+abbrev pub IsLineOfBridge : BridgeOutcome → List ℕ → Type 0
+IsLineOfBridge (bridges.Table o) line = IsLineOf o line
+IsLineOfBridge (bridges.Joined first second) line = line ≡ codes "joined " ++ decimal first.0 ++ codes " " ++ decimal second.0 ++ codes "\n"
+IsLineOfBridge (bridges.Parted first second) line = line ≡ codes "parted " ++ decimal first.0 ++ codes " " ++ decimal second.0 ++ codes "\n"
+IsLineOfBridge (bridges.Unjoined id cause) line = (words : List ℕ) × SaysUnjoined cause words × (line ≡ codes "unjoined " ++ decimal id.0 ++ codes " " ++ words ++ codes "\n")
+IsLineOfBridge (bridges.Lost port cause) line = (words : List ℕ) × SaysDrop cause words × (line ≡ codes "lost " ++ decimal port ++ codes " " ++ words ++ codes "\n")
+
+-- and so the line of each outcome of a bridge
+abbrev pub SaysWhatABridgeTells : BridgeOutcome → Type 0
+SaysWhatABridgeTells o = IsLineOfBridge o (bridge_outcome_line o)

@@ -6,9 +6,10 @@ ghost use Rattle.sg_gateway.specs.Step.{Event};
 ghost use Rattle.sg_migrate.specs.Migration.{IsMigration, MigrationTellings};
 ghost use Rattle.sg_mux.specs.Via.{events_in, passages_in};
 ghost use Rattle.sg_outcome.specs.declared.outcomes.Outcome.{Outcome};
+ghost use Rattle.sg_pairs.specs.declared.outcomes.BridgeOutcome.{BridgeOutcome};
 ghost use Rattle.sg_run.specs.ByOption.{GoesByOption};
 ghost use Rattle.sg_run.specs.Counted.{CountsWhatIsTold};
-ghost use Rattle.sg_run.specs.LineWords.{SaysWhatIsTold};
+ghost use Rattle.sg_run.specs.LineWords.{SaysWhatABridgeTells, SaysWhatIsTold};
 ghost use Rattle.sg_run.specs.Migrates.{WritesMigrated};
 ghost use Rattle.sg_trace.specs.declared.status.Status.{Status};
 
@@ -23,9 +24,10 @@ pub fn runs_go_by_their_option()
 }
 
 /// The line of each outcome has the words that stand for what it tells: a text's side, why a call ended, why a datagram was
-/// dropped or a signal refused.
+/// dropped, a signal refused, or a call not joined.
 pub fn lines_say_what_is_told()
-    ensures { (told : Outcome) → SaysWhatIsTold told }
+    ensures says { (told : Outcome) → SaysWhatIsTold told }
+    ensures bridge_says { (told : BridgeOutcome) → SaysWhatABridgeTells told }
 {}
 
 /// A migration that is done has written the script of version 2 of all that it read, and one that ends before that of its first

@@ -17,9 +17,10 @@ ghost use Rattle.sg_migrate.specs.VersionTwo.{IsVersionTwo, TicksFirst};
 ghost use Rattle.sg_mux.specs.Lined.{IsToldWithLines};
 ghost use Rattle.sg_mux.specs.Sharing.{SharesAsTold};
 ghost use Rattle.sg_outcome.specs.declared.outcomes.Outcome.{Outcome};
+ghost use Rattle.sg_pairs.specs.declared.outcomes.BridgeOutcome.{BridgeOutcome};
 ghost use Rattle.sg_passages.specs.Headline.{Headline};
 ghost use Rattle.sg_passages.specs.Passages.{Passage};
-ghost use Rattle.sg_run.specs.LineWords.{SaysWhatIsTold};
+ghost use Rattle.sg_run.specs.LineWords.{SaysWhatABridgeTells, SaysWhatIsTold};
 ghost use Rattle.sg_run.specs.Run.{HasRun, LeavesOthersAlone, PlaysInBatches};
 ghost use Rattle.sg_words.specs.Commands.{IsNoCommand};
 
@@ -107,6 +108,7 @@ pub fn run<R: Threads + Sync, S: Source, K: Sink, L: Link, C: Clock, N: Noise, G
     ensures shares { (before : List Event) (port : ℕ) (from : Address) (octets : Octets) → SharesAsTold before port from octets }
     ensures texts { (before : List Event) (id : CallId) (noise answer : List ℕ) → IsToldWithLines before id noise answer }
     ensures says { (told : Outcome) → SaysWhatIsTold told }
+    ensures bridge_says { (told : BridgeOutcome) → SaysWhatABridgeTells told }
     ensures datagrams_tick { (moment port : ℕ) (from : Address) (octets : List ℕ) → TicksFirst moment port from octets }
     ensures read { EndedBy (result ≡ Status.Read) (PlaysInBatches (map string_bytes words.now) × IsWant result) (S.faults source.old) (S.faults source.new) (S.failed source.new) }
     ensures write { HasFailed (result ≡ Status.Write) (K.faults sink.old) (K.faults sink.new) (K.failed sink.new) }
