@@ -46,8 +46,10 @@ def told_by(crates, row, kind):
     """The lines that a script of the rows tells by the definitions of these crates, played as its words say, or by a relay."""
     words = row.with_suffix(".words")
     played = words.read_text().strip() if words.is_file() else "replay"
-    command = [sys.executable, str(TOP / "interop" / "definitions.py"), f"{row}.script", str(crates), RELAYS[played] if kind == "relay" else played]
-    ran = subprocess.run(command, capture_output=True, timeout=SCRIPT_SECONDS)
+    capture = row.with_suffix(".pcap")
+    source = row.with_suffix(".script").read_bytes() + (capture.read_bytes() if capture.is_file() else b"")
+    command = [sys.executable, str(TOP / "interop" / "definitions.py"), "/dev/stdin", str(crates), RELAYS[played] if kind == "relay" else played]
+    ran = subprocess.run(command, input=source, capture_output=True, timeout=SCRIPT_SECONDS)
     if ran.returncode:
         raise Stuck("the definitions can't be computed: " + ran.stderr.decode().strip().split("\n")[-1])
     return ran.stdout.split(b"\n")
