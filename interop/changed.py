@@ -12,7 +12,6 @@ import functools
 import re
 import subprocess
 import sys
-import tempfile
 from pathlib import Path
 
 TOP = Path(__file__).resolve().parent.parent
@@ -48,11 +47,9 @@ def told_by(crates, row, kind):
     words = row.with_suffix(".words")
     played = words.read_text().strip() if words.is_file() else "replay"
     capture = row.with_suffix(".pcap")
-    with tempfile.NamedTemporaryFile() as source:
-        source.write(row.with_suffix(".script").read_bytes() + (capture.read_bytes() if capture.is_file() else b""))
-        source.flush()
-        command = [sys.executable, str(TOP / "interop" / "definitions.py"), source.name, str(crates), RELAYS[played] if kind == "relay" else played]
-        ran = subprocess.run(command, capture_output=True, timeout=SCRIPT_SECONDS)
+    source = row.with_suffix(".script").read_bytes() + (capture.read_bytes() if capture.is_file() else b"")
+    command = [sys.executable, str(TOP / "interop" / "definitions.py"), "/dev/stdin", str(crates), RELAYS[played] if kind == "relay" else played]
+    ran = subprocess.run(command, input=source, capture_output=True, timeout=SCRIPT_SECONDS)
     if ran.returncode:
         raise Stuck("the definitions can't be computed: " + ran.stderr.decode().strip().split("\n")[-1])
     return ran.stdout.split(b"\n")

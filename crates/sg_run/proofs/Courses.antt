@@ -6,7 +6,7 @@ use Rattle.sg_base.specs.declared.faults.ScriptFault.TheVariants.{Length, Unende
 use Rattle.sg_lines.proofs.Splits.{lines_of_rest}
 use Rattle.sg_lines.specs.ScriptLines.{NoEnd, lines_of, onto}
 use Rattle.sg_trace.proofs.Frames.{IsFar, IsLong, IsOpen, Opening, at_far, at_long, opening}
-use Rattle.sg_trace.specs.Course.{Course, Given, Ways, behind_given, behind_line, course, course_from, ended, read_at}
+use Rattle.sg_trace.specs.Course.{Given, Ways, behind_given, behind_line, course, course_from, ended, read_at}
 use Rattle.sg_trace.specs.Output.{IsPrefixOf}
 use Rattle.sg_trace.specs.Reading.{IsFramed}
 use Rattle.sg_trace.specs.Trace.{AtCapture}

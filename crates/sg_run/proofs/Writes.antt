@@ -5,7 +5,7 @@ use Rattle.std.proofs.lemmas.List.{append-nil}
 use Rattle.std.specs.List.{flat_map}
 use Rattle.sg_bridge.specs.Bridge.{IsBridge, bridge_text, bridge_trace, of_bridge}
 use Rattle.sg_capture.specs.Capturing.{CaptureEnds, IsCapture, IsCutCapture, IsWholeCapture}
-use Rattle.sg_edge.specs.Links.{LinkCall, Received}
+use Rattle.sg_edge.specs.Links.{LinkCall}
 use Rattle.sg_edge.specs.Links as links
 use Rattle.sg_edge.specs.Told.{Tally}
 use Rattle.sg_gateway.specs.Runs.{Turn, turn_of, turns, turns_from}
@@ -31,14 +31,14 @@ use Rattle.sg_playback.specs.Replay.{IsCutReplay, IsReplay, ReplayEnds, of_repla
 use Rattle.sg_relay.specs.Asked.{Act, Done as Doing, IsAtNext, IsCutOff, IsDone, IsPart, Sends, Tells, act_of, sends_in, sent_as, sent_of, written_as, written_of}
 use Rattle.sg_relay.specs.Joined as joined
 use Rattle.sg_relay.specs.Plain as plain
-use Rattle.sg_relay.specs.Relay.{IsRelay, Passed, RelayEnds, RelayTellings, deeds_by, woven_of}
+use Rattle.sg_relay.specs.Relay.{IsRelay, Passed, RelayEnds, RelayTellings, deeds_by}
 use Rattle.sg_relay.specs.Weaving.{Weaves}
 use Rattle.sg_run.proofs.Courses.{begun, ends_open}
 use Rattle.sg_run.proofs.Sends.{in_passages}
 use Rattle.sg_run.specs.Written.{Always, CaptureHasWritten, HasWritten, HasWrittenOfFront, IfUnsent, Line, RelayHasWritten, bridge_line_told, bridging_lines, capture_lines, joined_lines, line_told, lines_by, lines_met, passage_lines, plain_lines, went_by, went_in}
 use Rattle.sg_trace.proofs.Frames.{lines_framed}
 use Rattle.sg_trace.specs.Captured.{CaptureStop, Happens, Occurrence, Skipped, captured, captured_events, output_of}
-use Rattle.sg_trace.specs.Course.{Ways, course}
+use Rattle.sg_trace.specs.Course.{course}
 use Rattle.sg_trace.specs.Loop.{IsCut, LoopEnds, Tellings}
 use Rattle.sg_trace.specs.Output.{IsPrefixOf, text}
 use Rattle.sg_trace.specs.Reading.{IsFramed}
