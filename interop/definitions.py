@@ -25,6 +25,7 @@ from cryptography.hazmat.primitives.ciphers import Cipher, algorithms, modes
 
 sys.setrecursionlimit(10_000_000)
 STACK_OCTETS = 1 << 32
+LONG_SCRIPT = 1 << 16
 BEGAN = 1_000_000  # the moment at which a relay begins
 OUTSIDE = ("std", "base64", "core", "sha1", "hex", "itoa", "memchr", "rand_pcg", "rand_core")
 VARIANTS = "TheVariants"
@@ -703,15 +704,45 @@ def replayed(script):
             yield bytes(call(line, outcome))
 
 
+def muxed_by_events(script):
+    """The same of a replay whose legs may share ports, one event behind another as `outcomes_in` has them."""
+    after, stepped = (definition("sg_mux.specs.Via", name) for name in ("muxing_after", "stepped"))
+    line = definition("sg_outcome.specs.OutcomeText", "outcome_line")
+    world, calls = definition("sg_gateway.specs.World", "empty"), definition("sg_mux.specs.Muxed", "nobody")
+    for event in events_of(script):
+        given = call(after, world, calls, event)
+        world, calls = call(stepped, world, calls, event).fields["world"], given.fields["calls"]
+        for outcome in given.fields["told"]:
+            yield bytes(call(line, outcome))
+
+
 def muxed(script):
-    """What is written of a replay whose legs may share ports, by the definition of its text."""
-    yield bytes(call(definition("sg_playback.specs.Replay", "output_in"), True, events_of(script)))
+    """What is written of it, by the definition of its text; of a long script, whose text at once takes much memory, one event behind another."""
+    if len(script) > LONG_SCRIPT:
+        yield from muxed_by_events(script)
+    else:
+        yield bytes(call(definition("sg_playback.specs.Replay", "output_in"), True, events_of(script)))
+
+
+def bridged_by_lines(script):
+    """The lines of what a bridge tells, by the definitions of what its lines say, of a part of it and of an outcome's text."""
+    bridging = definition("sg_pairs.specs.Bridged", "bridging")
+    line = definition("sg_pairs.specs.BridgeText", "bridge_outcome_line")
+    world, calls = definition("sg_gateway.specs.World", "empty"), definition("sg_pairs.specs.Pairs", "no_members")
+    for said in call(definition("sg_bridge.specs.Bridge", "bridge_trace"), tuple(script), ()).fields["deeds"]:
+        given = call(bridging, world, calls, said)
+        world, calls = given.fields["world"], given.fields["calls"]
+        for outcome in given.fields["told"]:
+            yield bytes(call(line, outcome))
 
 
 def bridged(script):
-    """What is written of a bridge's script, by the definition of its text."""
-    said = call(definition("sg_bridge.specs.Bridge", "bridge_trace"), tuple(script), ()).fields["deeds"]
-    yield bytes(call(definition("sg_bridge.specs.Bridge", "bridge_text"), said))
+    """What is written of it, by the definition of its text; of a long script one line behind another."""
+    if len(script) > LONG_SCRIPT:
+        yield from bridged_by_lines(script)
+    else:
+        said = call(definition("sg_bridge.specs.Bridge", "bridge_trace"), tuple(script), ()).fields["deeds"]
+        yield bytes(call(definition("sg_bridge.specs.Bridge", "bridge_text"), said))
 
 
 def migrated(script):
